@@ -1,0 +1,3 @@
+pub mod Where
+pub mod Least
+pub mod Sums
