@@ -1,0 +1,4 @@
+pub mod Bounds
+pub mod Jobs
+pub mod Checks
+pub mod Cases

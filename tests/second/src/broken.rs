@@ -1,0 +1,10 @@
+//! Programs with one fault each, made by build.rs from this one's own source and edits.rs. The
+//! comparison runs against them to show that it notices such faults.
+
+#![allow(warnings)]
+
+use crate::answer::Answer;
+
+pub type Analyse = fn(&[u32], &mut [u32]) -> Answer;
+
+include!(concat!(env!("OUT_DIR"), "/broken.rs"));
