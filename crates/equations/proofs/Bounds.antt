@@ -16,7 +16,7 @@ use Rattle.equations.specs.declared.Response.{Response}
 use Rattle.equations.specs.declared.Response.the-variants.{Is, Fails}
 
 -- so many times a field, where the count is at most 5,000,001
-times≤ : (a b : ℕ) → a ≤ 5000001 → b ≤ 1000000 → a * b ≤ 5000001000000
+pub times≤ : (a b : ℕ) → a ≤ 5000001 → b ≤ 1000000 → a * b ≤ 5000001000000
 times≤ a b h g = mul-le-mul {n₂ = 5000001} {m₂ = 1000000} h g
 
 module _ (s : List ℕ) (sd : Sound s) where

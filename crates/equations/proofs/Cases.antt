@@ -53,6 +53,32 @@ pub all-right : Right cases
 unfolding firstWhere up sum largest B demand activeSide activePeriod releases startDemand startSide start jobResponse worst response E
     begunByHypertask begunByGuest bound below F windowSide WA WE guest
     tableCheck resultsCheck rowByRow hypertaskCheck guestCheck solved analysis results resultsAfter Right
-all-right =
-    (refl, refl, (refl, refl, (refl, refl, (refl, refl, (refl, refl, (refl, refl, (p7, p7-after,
-    (refl, refl, (refl, refl, (refl, refl, (refl, refl, (refl, refl, tt))))))))))))
+all-right = (
+  refl,
+  refl,
+  (
+    refl,
+    refl,
+    (
+      refl,
+      refl,
+      (
+        refl,
+        refl,
+        (
+          refl,
+          refl,
+          (
+            refl,
+            refl,
+            (
+              p7,
+              p7-after,
+              (refl, refl, (refl, refl, (refl, refl, (refl, refl, (refl, refl, tt))))),
+            ),
+          ),
+        ),
+      ),
+    ),
+  ),
+)

@@ -87,6 +87,16 @@ module _ (s : List ℕ) where
         within = λ j h. ltb-false _ _ (where-none (badDeadline s) (rows s) 0 g j (omega arith) (omega arith));
       }
 
+-- the tests of a field
+pub field-low : (s : List ℕ) (k : ℕ) → getD s k 0 < 1 → badField s k ≡ true
+field-low s k h = rw (lt-ltb (getD s k 0) 1 h)
+
+pub field-high : (s : List ℕ) (k : ℕ) → 1000000 < getD s k 0 → badField s k ≡ true
+field-high s k h = rw (lt-ltb 1000000 (getD s k 0) h) (either-right (ltb (getD s k 0) 1))
+
+pub field-fine : (s : List ℕ) (k : ℕ) → 1 ≤ getD s k 0 → getD s k 0 ≤ 1000000 → badField s k ≡ false
+field-fine s k h g = rw (le-ltb (getD s k 0) 1 h, le-ltb 1000000 (getD s k 0) g)
+
 -- ## The rows in their order
 
 -- The invariant of a loop over the rows: what is left to look at has the answer of the whole.

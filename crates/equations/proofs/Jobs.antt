@@ -1,11 +1,12 @@
 -- Laws of a row's jobs and of its two responses.
 -- Assumes nothing.
-use mathlib.Core.Path.{_≡_, refl, sym, ap, _∙_}
+use mathlib.Core.Path.{_≡_, refl, sym, ap, subst, _∙_}
 use mathlib.Core.List.{List}
 use mathlib.Core.Option.{Option, none, some}
 use mathlib.Core.Logic.{_⊎_, inl, inr, ⊎-elim}
 use Prim.Native.Nat.{ℕ, zero, suc, _+_, _-_, _*_, _≤_, _<_, max}
 use native.Mathlib.Nat.{lt-irrefl, add-zero, add-suc, max-le, suc-mul, mul-le-mul-right}
+use native.Mathlib.Numerals.{add-one}
 use native.Mathlib.Omega.{arith}
 use Rattle.least.specs.Sums.{up, sum}
 use Rattle.least.proofs.Sums.{sum-same}
@@ -24,6 +25,9 @@ is-inj a b e = cc
 
 pub is-fails : (a : ℕ) (f : Refusal) → Is a ≡ Fails f → ⊥
 is-fails a f e = let z : _≡_ {A = ℕ} 0 1 = cc in lt-irrefl 0 (omega arith)
+
+pub one-less : (n : ℕ) → suc n - 1 ≡ n
+one-less n = omega arith
 
 -- a job before the last one begins 4,000,000 or less after the first
 pub job-begins : (q n t : ℕ) → q < n → n * t ≤ 4000000 + t → q * t ≤ 4000000
@@ -46,6 +50,13 @@ module _ (s : List ℕ) (i : ℕ) where
   unfolding jobResponse
   job-none q e = rw e
 
+  -- the same, for the job with so many jobs before it
+  pub start-after-below : (before w : ℕ) → start s i (suc before) ≡ some w → w < D s i + before * T s i + 1 - K s i
+  start-after-below before w e = subst (λ (x : ℕ). w < D s i + x * T s i + 1 - K s i) (one-less before) (start-below (suc before) w e)
+
+  pub job-after : (before w : ℕ) → start s i (suc before) ≡ some w → jobResponse s i (suc before) ≡ some (w + K s i - before * T s i)
+  job-after before w e = job-some (suc before) w e ∙ ap (λ (x : ℕ). some (w + K s i - x * T s i)) (one-less before)
+
   -- no response is past the deadline
   pub job≤ : (q r : ℕ) → jobResponse s i q ≡ some r → r ≤ D s i
   unfolding jobResponse
@@ -55,9 +66,9 @@ module _ (s : List ℕ) (i : ℕ) where
       by none a b = absurd (some-none r (sym b))
       by (some w) a b = omega (arith, start-below q w a, some-inj _ _ b)
 
-  pub worst-more : (n a b : ℕ) → worst s i n ≡ some a → jobResponse s i (suc n) ≡ some b → worst s i (suc n) ≡ some (max a b)
+  pub worst-more : (n a b : ℕ) → worst s i n ≡ some a → jobResponse s i (suc n) ≡ some b → worst s i (n + 1) ≡ some (max a b)
   unfolding worst
-  worst-more n a b e f = rw (e, f)
+  worst-more n a b e f = rw add-one (rw (e, f))
 
   worst-stuck : (n k : ℕ) → worst s i n ≡ none → worst s i (n + k) ≡ none
   unfolding worst
@@ -113,6 +124,7 @@ module _ (s : List ℕ) (i : ℕ) where
       jobs : (t : ℕ) → activePeriod s i ≡ some t → (o : Option ℕ) → worst s i (up t (T s i)) ≡ o → worstOr6 i o ≡ Is r → Responds r
       jobs t a none b c = absurd (is-fails r _ (sym c))
       jobs t a (some x) b c = record { period = t; active = a; jobs = b ∙ ap some (is-inj _ _ c) }
+
       by : (o : Option ℕ) → activePeriod s i ≡ o → activeOr5 s i o ≡ Is r → Responds r
       by none a c = absurd (is-fails r _ (sym c))
       by (some t) a c = jobs t a (worst s i (up t (T s i))) refl c

@@ -85,8 +85,8 @@ seek-from f m lo end t h a b no-one =
       below = b;
       rising = subst (λ (x : ℕ). x ≤ f x) e (rises f m lo h (t - lo) (λ v x y. no-one v x (omega arith)));
       same = sym (ap (first f lo) n
-      ∙ where-skip (λ x. eqb x (f x)) (t - lo) (end - t) lo (λ v x y. ne-eqb v (f v) (no-one v x (omega arith)))
-      ∙ ap (λ (x : ℕ). first f x (end - t)) e);
+          ∙ where-skip (λ x. eqb x (f x)) (t - lo) (end - t) lo (λ v x y. ne-eqb v (f v) (no-one v x (omega arith)))
+          ∙ ap (λ (x : ℕ). first f x (end - t)) e);
     }
 
 -- .. the least candidate among them
