@@ -36,7 +36,7 @@ either-right : (a : Bool) → either a true ≡ true
 either-right true = refl
 either-right false = refl
 
-neither : (a b : Bool) → either a b ≡ false → (a ≡ false) × (b ≡ false)
+pub neither : (a b : Bool) → either a b ≡ false → (a ≡ false) × (b ≡ false)
 neither true b e = absurd (true-false e)
 neither false b e = (refl, e)
 

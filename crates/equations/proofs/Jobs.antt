@@ -33,6 +33,12 @@ one-less n = omega arith
 pub job-begins : (q n t : ℕ) → q < n → n * t ≤ 4000000 + t → q * t ≤ 4000000
 job-begins q n t h g = omega (arith, mul-le-mul-right t h, suc-mul q t)
 
+-- where the larger of two is there, so are both
+pub larger-both : (a b : Option ℕ) (r : ℕ) (G : Type 0) → ((x y : ℕ) → a ≡ some x → b ≡ some y → r ≡ max x y → G) → larger a b ≡ some r → G
+larger-both none b r G k e = absurd (some-none r (sym e))
+larger-both (some x) none r G k e = absurd (some-none r (sym e))
+larger-both (some x) (some y) r G k e = k x y refl refl (sym (some-inj _ _ e))
+
 module _ (s : List ℕ) (i : ℕ) where
   pub active≤ : (t : ℕ) → activePeriod s i ≡ some t → t ≤ 4000000
   unfolding activePeriod
@@ -86,11 +92,6 @@ module _ (s : List ℕ) (i : ℕ) where
       let one : worst s i (suc m) ≡ none = rw e (larger-none (worst s i m)) in
       let z : n ≡ suc m + (n - suc m) = omega arith in
       rw z (worst-stuck (suc m) (n - suc m) one)
-
-  larger-both : (a b : Option ℕ) (r : ℕ) (G : Type 0) → ((x y : ℕ) → a ≡ some x → b ≡ some y → r ≡ max x y → G) → larger a b ≡ some r → G
-  larger-both none b r G k e = absurd (some-none r (sym e))
-  larger-both (some x) none r G k e = absurd (some-none r (sym e))
-  larger-both (some x) (some y) r G k e = k x y refl refl (sym (some-inj _ _ e))
 
   pub worst≤ : (n r : ℕ) → worst s i n ≡ some r → r ≤ D s i
   unfolding worst
