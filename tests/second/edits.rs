@@ -14,11 +14,16 @@ const fn edit(name: &'static str, find: &'static str, replace: &'static str) -> 
 pub const ANALYSIS: &[Edit] = &[
     // The shape of what was handed in.
     edit("33 rows let through", "LONGEST_TABLE: usize = 128", "LONGEST_TABLE: usize = 132"),
-    edit("length not in fours let through", " || length % 4 != 0", " || length % 4 == 3"),
+    edit(
+        "numbers past the last four ignored",
+        "check_length(table)?;",
+        "let table = &table[..table.len() / 4 * 4];\n    check_length(table)?;",
+    ),
+    edit("place of 1 is the number of rows", "refusal(1, length)", "refusal(1, length / 4)"),
     edit("no numbers at all let through", "length < 4 ||", "length % 4 != 0 ||"),
     edit("1,000,001 let through", "LARGEST_FIELD: u32 = 1_000_000", "LARGEST_FIELD: u32 = 1_000_001"),
-    edit("1,000,000 not let through", "field > LARGEST_FIELD", "field >= LARGEST_FIELD"),
-    edit("1 not let through", "field < 1 ||", "field < 2 ||"),
+    edit("1,000,000 not let through", "1..=LARGEST_FIELD", "1..LARGEST_FIELD"),
+    edit("1 not let through", "1..=LARGEST_FIELD", "2..=LARGEST_FIELD"),
     edit("place of 2 from 1", "refusal(2, place)", "refusal(2, place + 1)"),
     edit(
         "3 before 2",
@@ -33,11 +38,11 @@ pub const ANALYSIS: &[Edit] = &[
         "check_room(table, results)?;\n    check_deadlines(table)?;",
     ),
     edit(
-        "4 after 7",
-        "check_room(table, results)?;\n    let rows",
-        "let room = check_room(table, results);\n    let rows",
+        "4 after 5 and 6",
+        "check_room(table, results)?;\n    let rows = rows_of(table);\n    let R = hypertask_responses(&rows)?;",
+        "let rows = rows_of(table);\n    let R = hypertask_responses(&rows)?;\n    check_room(table, results)?;",
     ),
-    edit("results too short by one let through", "results.len() < needed", "results.len() + 1 < needed"),
+    edit("one place more asked for", "results.len() < needed", "results.len() <= needed"),
     edit("place of 4 is what was lent", "refusal(4, needed)", "refusal(4, results.len())"),
     // Hypertask.
     edit("B left out", ".max().unwrap_or(0)", ".max().unwrap_or(0) * 0"),
@@ -47,8 +52,8 @@ pub const ANALYSIS: &[Edit] = &[
     edit("limit of t one too small", "PERIOD: i64 = 4_000_000", "PERIOD: i64 = 3_999_999"),
     edit(
         "equation 2 stopped at its first step",
-        "least(0, limit, |w| {",
-        "Some(0).filter(|w| *w <= limit).map(|w| {",
+        "least(0, limit, |w|",
+        "let first_step = |f: &dyn Fn(i64) -> i64| Some(f(0)).filter(|w| *w <= limit);\n    first_step(&|w|",
     ),
     edit("up(w/T) in place of up(w/T) + 1", "(up(w, j.T) + 1) * j.K", "up(w, j.T) * j.K"),
     edit("limit of w one too large", "own.D - own.K +", "own.D - own.K + 1 +"),
@@ -68,7 +73,7 @@ pub const ANALYSIS: &[Edit] = &[
         "begun_by_a_hypertask(row, E, w)",
     ),
     edit("E in place of T - E", "up(w - (row.T - E), row.T)", "up(w - E.min(w), row.T)"),
-    edit("begun by a guest 0 below E only", "if w <= E {", "if w < E {"),
+    edit("begun by a guest one tick early", "if w <= E {", "if w < E { 0 } else if w == E { 1 } else if w < E {"),
     edit("rows below left out of F", "below + (0..i)", "below * 0 + (0..i)"),
     edit("limit of WA one too large", "let limit = E[i];", "let limit = E[i] + 1;"),
     edit("limit of WA one too small", "let limit = E[i];", "let limit = E[i] - 1;"),

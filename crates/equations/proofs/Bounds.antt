@@ -10,7 +10,7 @@ use Rattle.least.specs.Search.{NeverFalls}
 use Rattle.least.specs.Sums.{up, sum, largest}
 use Rattle.least.proofs.Sums.{up-mono, up-le, up≥1, sum-mono, sum-le, largest-le}
 use Rattle.equations.specs.Table.{rows, T, D, C, K, Sound}
-use Rattle.equations.specs.Hypertask.{B, demand, activeSide, releases, startDemand, startSide, response, offsetFrom, E}
+use Rattle.equations.specs.Hypertask.{B, demand, activeSide, releases, startDemand, response, offsetFrom, E}
 use Rattle.equations.specs.Guest.{begunByHypertask, begunByGuest, bound, below, F, windowSide}
 use Rattle.equations.specs.declared.Response.{Response}
 use Rattle.equations.specs.declared.Response.the-variants.{Is, Fails}
@@ -134,10 +134,6 @@ pub starts-never-fall : (s : List ℕ) (i own : ℕ) → NeverFalls (λ w. own +
 unfolding startDemand
 starts-never-fall s i own a b h =
     omega (arith, sum-mono (startDemand s a) (startDemand s b) i (λ j p. mul-le-mul-right (K s j) (releases-mono s j h)))
-
-pub start-never-falls : (s : List ℕ) (i q : ℕ) → NeverFalls (startSide s i q)
-unfolding startSide
-start-never-falls s i q = starts-never-fall s i (B s i + (q - 1) * K s i)
 
 pub bound-mono : (s : List ℕ) (e : ℕ → ℕ) (j : ℕ) {a b : ℕ} → a ≤ b → bound s e a j ≤ bound s e b j
 unfolding bound begunByHypertask begunByGuest

@@ -42,7 +42,7 @@ larger-both (some x) (some y) r G k e = k x y refl refl (sym (some-inj _ _ e))
 module _ (s : List ℕ) (i : ℕ) where
   pub active≤ : (t : ℕ) → activePeriod s i ≡ some t → t ≤ 4000000
   unfolding activePeriod
-  active≤ t e = omega (arith, found _ 4000000 1 t e .1)
+  active≤ t e = omega (arith, found _ _ 1 t e .1)
 
   pub start-below : (q w : ℕ) → start s i q ≡ some w → w < D s i + (q - 1) * T s i + 1 - K s i
   unfolding start
@@ -141,11 +141,11 @@ module _ (s : List ℕ) (i : ℕ) where
 
   pub WA≤ : (v : ℕ) → WA s i ≡ some v → v ≤ E s i
   unfolding WA
-  WA≤ v q = omega (arith, found _ (E s i) 1 v q .1)
+  WA≤ v q = omega (arith, found _ _ 1 v q .1)
 
   pub WE≤ : (v : ℕ) → WE s i ≡ some v → v ≤ T s i
   unfolding WE
-  WE≤ v q = omega (arith, found _ (T s i) 1 v q .1)
+  WE≤ v q = omega (arith, found _ _ 1 v q .1)
 
   pub guest-7 : WA s i ≡ none → guest s i ≡ Fails (GuestFails (i + 1))
   unfolding guest

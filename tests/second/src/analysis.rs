@@ -44,7 +44,7 @@ fn check_length(table: &[u32]) -> Result<(), Refusal> {
 
 fn check_fields(table: &[u32]) -> Result<(), Refusal> {
     for (place, &field) in table.iter().enumerate() {
-        if field < 1 || field > LARGEST_FIELD {
+        if !(1..=LARGEST_FIELD).contains(&field) {
             return Err(refusal(2, place));
         }
     }
@@ -111,18 +111,14 @@ fn B(rows: &[Row], i: usize) -> i64 {
 /// t(i), where it is within its limit.
 fn active_period(rows: &[Row], i: usize) -> Option<i64> {
     let (above, own, b) = (&rows[..i], &rows[i], B(rows, i));
-    least(1, LONGEST_ACTIVE_PERIOD, |t| {
-        b + up(t, own.T) * own.K + sum(above, |j| up(t, j.T) * j.K)
-    })
+    least(1, LONGEST_ACTIVE_PERIOD, |t| b + up(t, own.T) * own.K + sum(above, |j| up(t, j.T) * j.K))
 }
 
 /// w(i,q), where w + K − (q−1)·T is at most D.
 fn start(rows: &[Row], i: usize, q: i64) -> Option<i64> {
     let (above, own, b) = (&rows[..i], &rows[i], B(rows, i));
     let limit = own.D - own.K + (q - 1) * own.T;
-    least(0, limit, |w| {
-        b + (q - 1) * own.K + sum(above, |j| (up(w, j.T) + 1) * j.K)
-    })
+    least(0, limit, |w| b + (q - 1) * own.K + sum(above, |j| (up(w, j.T) + 1) * j.K))
 }
 
 /// R(i): the largest w(i,q) + K(i) − (q−1)·T(i).

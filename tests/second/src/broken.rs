@@ -1,7 +1,7 @@
 //! Programs with one fault each, made by build.rs from this one's own source and edits.rs. The
 //! comparison runs against them to show that it notices such faults.
 
-#![allow(warnings)]
+#![allow(warnings, clippy::all)]
 
 use crate::answer::Answer;
 

@@ -20,11 +20,12 @@ impl Dice {
         low + self.number() % (high - low + 1)
     }
 
-    /// A number from `low` to `high` with small ones as likely as large ones.
+    /// A number from `low` to `high` with small ones as likely as large ones: each doubling of
+    /// `low` has the same chance.
     pub fn of_any_size(&mut self, low: u64, high: u64) -> u64 {
-        let span = high as f64 / low as f64;
-        let number = low as f64 * span.powf(self.part());
-        (number as u64).clamp(low, high)
+        let doublings = (high / low).ilog2();
+        let low = low << self.from_to(0, doublings.into());
+        self.from_to(low, high.min(2 * low - 1))
     }
 
     /// A part of 1: at least 0 and below 1.

@@ -1,0 +1,9 @@
+//! What the benchmarks share: plain Rust programs to measure against, made-up inputs and a clock.
+
+pub mod analysis;
+pub mod clock;
+pub mod planner_tables;
+pub mod rounds;
+
+#[path = "../../tests/second/src/dice.rs"]
+pub mod dice;

@@ -1,0 +1,27 @@
+//! The library through its C interface.
+
+use crate::lent::Lent;
+use second::answer::{Answer, Refusal};
+
+#[link(name = "export", kind = "static")]
+extern "C" {
+    fn tollsalmon_analyse(
+        table: *const u32,
+        table_len: usize,
+        results: *mut u32,
+        results_len: usize,
+        place: *mut u64,
+    ) -> u32;
+}
+
+pub fn analyse(table: &[u32], lent: &mut Lent) -> Answer {
+    let (results, length) = lent.pointer_and_length();
+    // A place that the library leaves unwritten is no place of any answer.
+    let mut place = u64::MAX;
+    // SAFETY: both pointers are good for the lengths given with them, and `place` for one number.
+    let number = unsafe { tollsalmon_analyse(table.as_ptr(), table.len(), results, length, &mut place) };
+    match number {
+        0 => Ok(place),
+        number => Err(Refusal { number, place }),
+    }
+}
