@@ -8,22 +8,24 @@ use Prim.Native.Nat.{ℕ, zero, suc, _+_, _-_, _*_, _≤_, _<_}
 use native.Mathlib.Nat.{lt-irrefl, eq-or-lt-of-le, le-of-suc-le-suc}
 use native.Mathlib.Numerals.{add-one, add-two}
 use native.Mathlib.Omega.{arith}
-use lib.ListN.{length, getD, take, drop, set, length-set, length-append, length-drop}
-use lib.Seq.{getD-set-same, getD-set-other, sets-eq, take-at, drop-append-add, drop-drop}
+use lib.ListN.{length, getD, take, drop, set, length-set}
+use lib.Seq.{getD-set-same, getD-set-other, sets-eq}
 use Rattle.least.specs.Search.{first, NeverFalls}
 use Rattle.least.specs.Sums.{up}
+use Rattle.least.specs.Lists.{flat}
 use Rattle.least.proofs.Sums.{up-le}
 use Rattle.least.proofs.Where.{where-empty}
 use Rattle.least.proofs.Least.{first-same}
+use Rattle.least.proofs.Lists.{flat-same}
 use Rattle.equations.specs.Table.{rows, T, D, K}
 use Rattle.equations.specs.Hypertask.{B, startSide, start, response, valueOf, E}
 use Rattle.equations.specs.Guest.{windowSide, guest}
-use Rattle.equations.specs.Analysis.{results}
+use Rattle.equations.specs.Analysis.{threeOf, results}
 use Rattle.equations.specs.declared.Response.{Response}
 use Rattle.equations.specs.declared.Response.the-variants.{Is, Fails}
 use Rattle.equations.proofs.Jobs.{one-less, offset-is, window-same}
 use Rattle.equations.proofs.Bounds.{times≤, starts-never-fall}
-use Rattle.analysis.specs.Loops.{foundOf, placeOf, startsFrom, offsetsIn, Offsets, Filled, GuestsFilled, tripled}
+use Rattle.analysis.specs.Loops.{foundOf, placeOf, startsFrom, offsetsIn, Offsets, Filled, GuestsFilled, threeIn}
 use Rattle.analysis.specs.declared.numbers.Found.{Found}
 use Rattle.analysis.specs.declared.numbers.Found.the-variants.{At, Nothing}
 use Rattle.analysis.specs.declared.checks.Place.{Place}
@@ -110,13 +112,14 @@ module _ (s : List ℕ) where
       record { long = simp length-set (f .long); g = stored gs i x (λ j y. guest s j ≡ Is y) (omega (arith, f .long)) (f .g) q }
 
   -- the three arrays hold the definition's results
-  pub results-are : (rs es gs : List ℕ) (n m : ℕ) → m ≤ n → Filled s rs es n → GuestsFilled s gs n → tripled rs es gs m ≡ results s m
-  unfolding tripled results
-  results-are rs es gs n zero h f g = refl
-  results-are rs es gs n (suc m) h f g =
-      let r : getD rs m 0 ≡ valueOf (response s m) = sym (ap valueOf (f .r m h)) in
-      let x : getD gs m 0 ≡ valueOf (guest s m) = sym (ap valueOf (g .g m h)) in
-      rw (results-are rs es gs n m (omega arith) f g, r, f .e m h, x)
+  pub results-are : (rs es gs : List ℕ) (n : ℕ) → Filled s rs es n → GuestsFilled s gs n → flat (threeIn rs es gs) n ≡ results s n
+  results-are rs es gs n f g = flat-same (threeIn rs es gs) (threeOf s) n row
+    where
+      row : (j : ℕ) → j < n → threeIn rs es gs j ≡ threeOf s j
+      row j h =
+          let r : getD rs j 0 ≡ valueOf (response s j) = sym (ap valueOf (f .r j h)) in
+          let x : getD gs j 0 ≡ valueOf (guest s j) = sym (ap valueOf (g .g j h)) in
+          rw (r, f .e j h, x)
 
 -- ## Three numbers a task
 
@@ -126,28 +129,3 @@ set-three o at a b c h =
     ap (λ (x : ℕ). set (set (set o at a) x b) (at + 2) c) (add-one at)
     ∙ ap (λ (x : ℕ). set (set (set o at a) (suc at) b) x c) (add-two at)
     ∙ sets-eq (a ∷ b ∷ c ∷ []) o at h
-
--- three more at the end of what is written
-front-three : (p v o : List ℕ) (m : ℕ) → length p ≡ m → take m (p ++ drop m o) ++ v ++ drop (m + 3) (p ++ drop m o) ≡ p ++ v ++ drop (m + 3) o
-front-three p v o m e =
-    let d : drop (m + 3) (p ++ drop m o) ≡ drop (m + 3) o =
-    ap (λ (x : ℕ). drop (x + 3) (p ++ drop m o)) (sym e) ∙ drop-append-add p (drop m o) 3 ∙ drop-drop 3 m o in
-    rw (take-at p (drop m o) m e, d)
-
-length-tripled : (rs es gs : List ℕ) (n : ℕ) → length (tripled rs es gs n) ≡ 3 * n
-unfolding tripled
-length-tripled rs es gs zero = refl
-length-tripled rs es gs (suc n) =
-    omega (arith, length-append (tripled rs es gs n) (getD rs n 0 ∷ getD es n 0 ∷ getD gs n 0 ∷ []), length-tripled rs es gs n)
-
--- one turn of the loop that writes them
-pub triple-step : (rs es gs o out : List ℕ) (i : ℕ) → out ≡ tripled rs es gs i ++ drop (3 * i) o
-    → take (3 * i) out ++ (getD rs i 0 ∷ getD es i 0 ∷ getD gs i 0 ∷ []) ++ drop (3 * i + 3) out ≡ tripled rs es gs (i + 1) ++ drop (3 * (i + 1)) o
-unfolding tripled
-triple-step rs es gs o out i e =
-    let v : List ℕ = getD rs i 0 ∷ getD es i 0 ∷ getD gs i 0 ∷ [] in
-    let z : 3 * i + 3 ≡ 3 * (i + 1) = omega arith in
-    ap (λ (x : List ℕ). take (3 * i) x ++ v ++ drop (3 * i + 3) x) e
-    ∙ front-three (tripled rs es gs i) v o (3 * i) (length-tripled rs es gs i)
-    ∙ ap (λ (x : ℕ). tripled rs es gs i ++ v ++ drop x o) z
-    ∙ ap (λ (x : ℕ). tripled rs es gs x ++ drop (3 * (i + 1)) o) (sym (add-one i))

@@ -56,7 +56,6 @@ pub record GuestsFilled (s gs : List ℕ) (n : ℕ) : Type 0 where
   pub long : length gs ≡ 32
   pub g : (j : ℕ) → j < n → guest s j ≡ Is (getD gs j 0)
 
--- R, E and G of the first n rows, from three lists
-unfoldable pub tripled : List ℕ → List ℕ → List ℕ → ℕ → List ℕ
-tripled rs es gs zero = []
-tripled rs es gs (suc n) = tripled rs es gs n ++ (getD rs n 0 ∷ getD es n 0 ∷ getD gs n 0 ∷ [])
+-- R, E and G of row j, from three lists
+abbrev pub threeIn : List ℕ → List ℕ → List ℕ → ℕ → List ℕ
+threeIn rs es gs j = getD rs j 0 ∷ getD es j 0 ∷ getD gs j 0 ∷ []

@@ -10,7 +10,8 @@ ghost use mathlib.Core.List.{[], _∷_, _++_};
 ghost use lib.ListN.{length, take, drop};
 ghost use Rattle.equations.specs.Table.{rows, Sound};
 ghost use Rattle.equations.specs.Analysis.{hypertaskCheck, guestCheck};
-ghost use Rattle.analysis.specs.Loops.{Offsets, Filled, GuestsFilled, tripled};
+ghost use Rattle.analysis.specs.Loops.{Offsets, Filled, GuestsFilled, threeIn};
+ghost use Rattle.least.specs.Lists.{flat};
 
 // R and E of each row, or the first refusal of 5 and 6.
 pub(crate) fn hypertasks(table: &[u32], rs: &mut [u32; 32], es: &mut [u32; 32]) -> Checked
@@ -67,7 +68,7 @@ fn put_three(lent: &mut [u32], at: usize, a: u32, b: u32, c: u32)
 // R, E, G of n tasks, at the front of the lent results.
 pub(crate) fn write(lent: &mut [u32], rs: &[u32], es: &[u32], gs: &[u32], n: usize)
     requires { ⌜ (3 * n ≤ length (now lent)) × (n ≤ length (now rs)) × (n ≤ length (now es)) × (n ≤ length (now gs)) ⌝ }
-    ensures { λ _. ⌜ now (lent .exit) ≡ tripled (now (rs .entry)) (now (es .entry)) (now (gs .entry)) n ++ drop (3 * n) (now (lent .entry)) ⌝ }
+    ensures { λ _. ⌜ now (lent .exit) ≡ flat (threeIn (now (rs .entry)) (now (es .entry)) (now (gs .entry))) n ++ drop (3 * n) (now (lent .entry)) ⌝ }
 {
     for i in 0..n {
         put_three(lent, 3 * i, rs[i], es[i], gs[i]);

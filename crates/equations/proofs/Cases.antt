@@ -8,11 +8,12 @@ use Prim.Native.Nat.{ℕ, _≤_}
 use lib.Dec.{lit<, lit≤}
 use Rattle.least.specs.Search.{firstWhere}
 use Rattle.least.specs.Sums.{up, sum, largest}
+use Rattle.least.specs.Lists.{flat}
 use Rattle.least.proofs.Least.{repeated, repeated-right, seek-start}
 use Rattle.refusals.specs.declared.Refusal.the-variants.{NoActivePeriod}
 use Rattle.equations.specs.Hypertask.{B, demand, activeSide, activePeriod, releases, startDemand, startSide, start, jobResponse, worst, response, E}
 use Rattle.equations.specs.Guest.{begunByHypertask, begunByGuest, bound, below, F, windowSide, WA, WE, guest}
-use Rattle.equations.specs.Analysis.{stopAtRow, andThen, tableCheck, resultsCheck, rowByRow, hypertaskCheck, guestCheck, solved, analysis, results, resultsBy, resultsAfter}
+use Rattle.equations.specs.Analysis.{stopAtRow, andThen, tableCheck, resultsCheck, rowByRow, hypertaskCheck, guestCheck, solved, analysis, resultsBy, resultsAfter}
 use Rattle.equations.specs.Cases.{Right, cases}
 use Rattle.equations.specs.declared.Response.{Response}
 use Rattle.equations.specs.declared.Checked.the-variants.{Passed, Stopped}
@@ -52,7 +53,7 @@ p7-after = ap (resultsBy t7 (9 ∷ 9 ∷ 9 ∷ [])) p7
 pub all-right : Right cases
 unfolding firstWhere up sum largest B demand activeSide activePeriod releases startDemand startSide start jobResponse worst response E
     begunByHypertask begunByGuest bound below F windowSide WA WE guest
-    tableCheck resultsCheck rowByRow hypertaskCheck guestCheck solved analysis results resultsAfter Right
+    tableCheck resultsCheck rowByRow hypertaskCheck guestCheck solved analysis flat resultsAfter Right
 all-right = (
   refl,
   refl,

@@ -102,7 +102,7 @@ returns-3 c =
     let f = c .before .before .before .before .before .before .before .before .before .before .before .before in
     let g = c .before .before .before .before .before .before .before in (
       sym (accepted s (hypertasks-pass f) (guests-pass g)),
-      c .before .before .write .ensures ∙ ap (λ (x : List ℕ). x ++ drop (3 * rows s) (now (a .args .lent))) (results-are s _ _ _ (rows s) (rows s) (omega arith) (filled f) (guests-filled g)),
+      c .before .before .write .ensures ∙ ap (λ (x : List ℕ). x ++ drop (3 * rows s) (now (a .args .lent))) (results-are s _ _ _ (rows s) (filled f) (guests-filled g)),
     )
 
 pub solve-spec : {M : Type 1} → statement M

@@ -4,8 +4,9 @@ use denote.Ref.{now}
 use Prim.Native.Nat.{ℕ, _+_, _-_, _*_, _≤_}
 use native.Mathlib.Omega.{arith}
 use lib.ListN.{length, drop}
-use Rattle.analysis.specs.Loops.{tripled}
-use Rattle.analysis.proofs.Loops.{triple-step}
+use Rattle.least.specs.Lists.{flat}
+use Rattle.analysis.specs.Loops.{threeIn}
+use Rattle.least.proofs.Lists.{block-more}
 use borrow.Author.Needs.{needs}
 use Rattle.analysis.proofs.results.write.Statement.{statement}
 use Rattle.analysis.proofs.results.write.Tie as tie
@@ -14,14 +15,14 @@ use Rattle.analysis.proofs.results.write.Lts as lts
 use Rattle.analysis.proofs.results.put_three.Reads as put-three-reads
 
 abbrev Inv-loop : tie.InvT-loop
-Inv-loop lent₀ rs es gs n i₀ lent i = (i ≤ n) × (lent ≡ tripled rs es gs i ++ drop (3 * i) lent₀) × (length lent ≡ length lent₀)
+Inv-loop lent₀ rs es gs n i₀ lent i = (i ≤ n) × (lent ≡ flat (threeIn rs es gs) i ++ drop (3 * i) lent₀) × (length lent ≡ length lent₀)
 
 abbrev μ-loop : tie.MeasureT-loop
 μ-loop lent₀ rs es gs n i₀ lent i = n - i
 
 -- src/results.rt:72:5
 loop-holds : tie.Need-loop-holds Inv-loop μ-loop
-unfolding tripled
+unfolding flat
 loop-holds c = (omega arith, refl, refl)
 
 -- src/results.rt:73:25
@@ -70,7 +71,7 @@ loop-again c =
     let a = c .before .before .before .before .before .before .before .before .before .before .before .before .before in
     let l = c .before .before .before .before .before .before .before .before .loop in (
       omega arith,
-      c .before .before .put-three .ensures ∙ triple-step (now (a .args .rs)) (now (a .args .es)) (now (a .args .gs)) (now (a .args .lent)) (l .lent) (l .i) (l .inv .1),
+      c .before .before .put-three .ensures ∙ block-more (threeIn (now (a .args .rs)) (now (a .args .es)) (now (a .args .gs))) 3 (λ k. refl) (now (a .args .lent)) (l .lent) (l .i) (l .inv .1),
       omega arith,
     )
 
@@ -83,7 +84,7 @@ returns : tie.Need-returns Inv-loop μ-loop
 returns c =
     let a = c .before .before .before .before .before .before in
     let e : c .before .loop .i ≡ a .args .n = omega arith in
-    c .before .loop .inv .1 ∙ ap (λ (x : ℕ). tripled (now (a .args .rs)) (now (a .args .es)) (now (a .args .gs)) x ++ drop (3 * x) (now (a .args .lent))) e
+    c .before .loop .inv .1 ∙ ap (λ (x : ℕ). flat (threeIn (now (a .args .rs)) (now (a .args .es)) (now (a .args .gs))) x ++ drop (3 * x) (now (a .args .lent))) e
 
 pub write-spec : {M : Type 1} → statement M
 write-spec =

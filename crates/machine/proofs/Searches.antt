@@ -1,0 +1,223 @@
+-- Laws of searches, counts and maps over the rows. Assumes nothing.
+use mathlib.Core.Path.{_≡_, refl, _∙_, ap, sym}
+use mathlib.Core.Bool.{Bool, true, false, not, _&&_, _||_, cond, true≢false}
+use mathlib.Core.List.{List, [], _∷_, _++_}
+use Prim.Native.Nat.{ℕ, zero, suc, _+_, _-_, _≤_, _<_}
+use native.Mathlib.Numerals.{add-one}
+use native.Mathlib.Omega.{arith}
+use lib.Dec.{leb, ltb, eqb}
+use lib.ListN.{length, getD, take, drop, set, drop-of-length-le}
+use lib.Seq.{drop-cons, drop-nil, take-nil, take-suc, take-suc-set, drop-set-lt, append-snoc}
+use borrow.Author.Tests.{ltb-true, ltb-false, leb-true, lt-ltb, le-ltb}
+use Rattle.machine.specs.declared.Row.{Row}
+use Rattle.machine.specs.Rows.{noRow, Found, at, none, firstFrom, first, orElse, mapFrom, every, howMany}
+use Rattle.machine.specs.OnePass.{place, isNone}
+
+-- what a place that was found has
+pub record Placed (p : ℕ → Row → Bool) (l : List Row) (j i : ℕ) : Type 0 where
+  pub off : ℕ
+  pub is : i ≡ j + off
+  pub below : off < length l
+  pub has : p i (getD l off noRow) ≡ true
+
+pub first-at : (p : ℕ → Row → Bool) (l : List Row) (j i : ℕ) → firstFrom p j l ≡ at i → Placed p l j i
+unfolding firstFrom
+first-at p [] j i h = let z : _≡_ {A = ℕ} 0 1 = cc in absurd (omega arith)
+first-at p (r ∷ rs) j i h = go (p j r) refl h (first-at p rs (suc j) i)
+  where
+    go : (x : Bool) → p j r ≡ x → cond x (at j) (firstFrom p (suc j) rs) ≡ at i
+        → (firstFrom p (suc j) rs ≡ at i → Placed p rs (suc j) i) → Placed p (r ∷ rs) j i
+    go true e q ih =
+        let z : j ≡ i = cc in
+        record { off = 0; is = omega arith; below = omega arith; has = rw (← z) e }
+    go false e q ih =
+        let t = ih q in
+        record { off = suc (t .off); is = omega arith; below = omega arith; has = t .has }
+
+pub found-at : (p : ℕ → Row → Bool) (l : List Row) (i : ℕ) → first p l ≡ at i → (i < length l) × (p i (getD l i noRow) ≡ true)
+found-at p l i h =
+    let t = first-at p l 0 i h in
+    let off : t .off ≡ i = omega arith in
+    (omega arith, rw off at (t .has))
+
+cond-none : (b : Bool) (j : ℕ) (x : Found) → cond b (at j) x ≡ none → (b ≡ false) × (x ≡ none)
+cond-none true j x h = let z : _≡_ {A = ℕ} 0 1 = cc in absurd (omega arith)
+cond-none false j x h = (refl, h)
+
+pub none-cons : (p : ℕ → Row → Bool) (i : ℕ) (r : Row) (rs : List Row) → firstFrom p i (r ∷ rs) ≡ none → (p i r ≡ false) × (firstFrom p (suc i) rs ≡ none)
+unfolding firstFrom
+none-cons p i r rs h = cond-none (p i r) i (firstFrom p (suc i) rs) h
+
+pub none-intro : (p : ℕ → Row → Bool) (i : ℕ) (r : Row) (rs : List Row) → p i r ≡ false → firstFrom p (suc i) rs ≡ none → firstFrom p i (r ∷ rs) ≡ none
+unfolding firstFrom
+none-intro p i r rs h e = rw h e
+
+-- none was found: p fails at each place
+pub none-at : (p : ℕ → Row → Bool) (l : List Row) (j k : ℕ) → firstFrom p j l ≡ none → k < length l → p (j + k) (getD l k noRow) ≡ false
+none-at p [] j k h lt = absurd (omega arith)
+none-at p (r ∷ rs) j zero h lt =
+    let z : j + 0 ≡ j = omega arith in
+    rw z (none-cons p j r rs h .0)
+none-at p (r ∷ rs) j (suc k) h lt =
+    let z : j + suc k ≡ suc j + k = omega arith in
+    rw z (none-at p rs (suc j) k (none-cons p j r rs h .1) (omega arith))
+
+pub all-none : (p : ℕ → Row → Bool) (l : List Row) (j : ℕ) → ((k : ℕ) → k < length l → p (j + k) (getD l k noRow) ≡ false) → firstFrom p j l ≡ none
+unfolding firstFrom
+all-none p [] j f = refl
+all-none p (r ∷ rs) j f =
+    let z : j + 0 ≡ j = omega arith in
+    let e : p j r ≡ false = rw z at (f 0 (omega arith)) in
+    rw e (all-none p rs (suc j) (λ k h. let y : j + suc k ≡ suc j + k = omega arith in rw y at (f (suc k) (omega arith))))
+
+pub none-drop : (p : ℕ → Row → Bool) (l : List Row) (j k : ℕ) → firstFrom p j l ≡ none → firstFrom p (j + k) (drop k l) ≡ none
+unfolding firstFrom
+none-drop p l j zero h = let z : j + 0 ≡ j = omega arith in rw z h
+none-drop p [] j (suc k) h = refl
+none-drop p (r ∷ rs) j (suc k) h =
+    let z : j + suc k ≡ suc j + k = omega arith in
+    rw z (none-drop p rs (suc j) k (none-cons p j r rs h .1))
+
+-- p holds at some place: one is found
+pub some-at : (p : ℕ → Row → Bool) (l : List Row) (k : ℕ) → k < length l → p k (getD l k noRow) ≡ true → isNone (first p l) ≡ false
+some-at p l k h e = go (first p l) refl
+  where
+    go : (f : Found) → first p l ≡ f → isNone f ≡ false
+    go (at i) q = refl
+    go none q =
+        let z : 0 + k ≡ k = omega arith in
+        let n : p k (getD l k noRow) ≡ false = rw z at (none-at p l 0 k q h) in
+        absurd (true≢false (sym e ∙ n))
+
+pub is-none : (f : Found) → isNone f ≡ true → f ≡ none
+is-none (at i) h = absurd (true≢false (sym h))
+is-none none h = refl
+
+-- what was found, as a number
+
+pub place-cond : (b : Bool) (i : ℕ) (f : Found) → place (cond b (at i) f) ≡ cond b i (place f)
+place-cond true i f = refl
+place-cond false i f = refl
+
+pub some-cond : (b : Bool) (i : ℕ) (f : Found) → not (isNone (cond b (at i) f)) ≡ cond b true (not (isNone f))
+some-cond true i f = refl
+some-cond false i f = refl
+
+-- of 32 places, a place that was found is below 32
+pub below : (p : ℕ → Row → Bool) (rows : List Row) → length rows ≡ 32 → (i : ℕ) → first p rows ≡ at i → i < 32
+below p rows l i e = let t = found-at p rows i e in omega arith
+
+pub place-found : (f : Found) (x : ℕ) → ((i : ℕ) → f ≡ at i → i < 32) → x ≡ place f → x < 32 → f ≡ at x
+place-found (at i) x h e lt = rw e
+place-found none x h e lt = absurd (omega arith)
+
+pub place-none : (f : Found) (x : ℕ) → ((i : ℕ) → f ≡ at i → i < 32) → x ≡ place f → 32 ≤ x → f ≡ none
+place-none (at i) x h e le = let z = h i refl in absurd (omega arith)
+place-none none x h e le = refl
+
+pub or-place : (f g : Found) → ((i : ℕ) → f ≡ at i → i < 32) → place (orElse f g) ≡ cond (ltb (place f) 32) (place f) (place g)
+or-place (at i) g h = rw (lt-ltb i 32 (h i refl))
+or-place none g h = refl
+
+-- a search for either of two properties comes to the lower of two places
+place-from : (p : ℕ → Row → Bool) (i : ℕ) (l : List Row) → i + length l ≤ 32 → i ≤ place (firstFrom p i l)
+unfolding firstFrom
+place-from p i [] h = omega arith
+place-from p i (r ∷ rs) h = go (p i r) (place-from p (suc i) rs (omega arith))
+  where
+    go : (b : Bool) → suc i ≤ place (firstFrom p (suc i) rs) → i ≤ place (cond b (at i) (firstFrom p (suc i) rs))
+    go true q = omega arith
+    go false q = omega arith
+
+pub first-either : (p q : ℕ → Row → Bool) (i : ℕ) (l : List Row) → i + length l ≤ 32
+    → place (firstFrom (λ j r. p j r || q j r) i l) ≡ cond (ltb (place (firstFrom p i l)) (place (firstFrom q i l))) (place (firstFrom p i l)) (place (firstFrom q i l))
+unfolding firstFrom
+first-either p q i [] h = refl
+first-either p q i (r ∷ rs) h =
+    go (p i r) (q i r) (place-from p (suc i) rs (omega arith)) (place-from q (suc i) rs (omega arith)) (first-either p q (suc i) rs (omega arith))
+  where
+    P : Found
+    P = firstFrom p (suc i) rs
+
+    Q : Found
+    Q = firstFrom q (suc i) rs
+
+    go : (x y : Bool) → suc i ≤ place P → suc i ≤ place Q
+        → place (firstFrom (λ j s. p j s || q j s) (suc i) rs) ≡ cond (ltb (place P) (place Q)) (place P) (place Q)
+        → place (cond (x || y) (at i) (firstFrom (λ j s. p j s || q j s) (suc i) rs))
+        ≡ cond (ltb (place (cond x (at i) P)) (place (cond y (at i) Q))) (place (cond x (at i) P)) (place (cond y (at i) Q))
+    go true true a b e = rw (le-ltb i i (omega arith))
+    go true false a b e = rw (lt-ltb i (place Q) (omega arith))
+    go false true a b e = rw (le-ltb (place P) i (omega arith))
+    go false false a b e = e
+
+-- every row of a table and every place past it, as one search
+pub every-place : (p q : Row → Bool) (n i : ℕ) (l : List Row)
+    → (every p (take (n - i) l) && every q (drop (n - i) l)) ≡ isNone (firstFrom (λ j r. not (cond (ltb j n) (p r) (q r))) i l)
+unfolding every firstFrom
+every-place p q n i [] = rw (take-nil (n - i), drop-nil (n - i))
+every-place p q n i (r ∷ rs) = go (ltb i n) refl (every-place p q n (suc i) rs)
+  where
+    rest : Found
+    rest = firstFrom (λ j s. not (cond (ltb j n) (p s) (q s))) (suc i) rs
+
+    row : (b : Bool) → (every p (take (n - suc i) rs) && every q (drop (n - suc i) rs)) ≡ isNone rest
+        → ((b && every p (take (n - suc i) rs)) && every q (drop (n - suc i) rs)) ≡ isNone (cond (not b) (at i) rest)
+    row true e = e
+    row false e = refl
+
+    past : (b : Bool) → every q rs ≡ isNone rest → (b && every q rs) ≡ isNone (cond (not b) (at i) rest)
+    past true e = e
+    past false e = refl
+
+    go : (x : Bool) → ltb i n ≡ x → (every p (take (n - suc i) rs) && every q (drop (n - suc i) rs)) ≡ isNone rest
+        → (every p (take (n - i) (r ∷ rs)) && every q (drop (n - i) (r ∷ rs))) ≡ isNone (cond (not (cond (ltb i n) (p r) (q r))) (at i) rest)
+    go true e ih =
+        let lt = ltb-true i n e in
+        let z : n - i ≡ suc (n - suc i) = omega arith in
+        rw (z, e) (row (p r) ih)
+    go false e ih =
+        let ge = ltb-false i n e in
+        let z : n - i ≡ 0 = omega arith in
+        let y : n - suc i ≡ 0 = omega arith in
+        rw (z, e) (past (q r) (rw y at ih))
+
+-- counts
+
+pub count-le : (p : Row → Bool) (l : List Row) → howMany p l ≤ length l
+unfolding howMany
+count-le p [] = omega arith
+count-le p (r ∷ rs) = go (p r) (count-le p rs)
+  where
+    go : (b : Bool) → howMany p rs ≤ length rs → cond b (suc (howMany p rs)) (howMany p rs) ≤ suc (length rs)
+    go true h = omega arith
+    go false h = omega arith
+
+-- a map in place: what is done, and what is left
+module _ (f : ℕ → Row → Row) (out : List Row) (i : ℕ) where
+  pub map-step : (q : Row) → i < length out → q ≡ f i (getD out i noRow)
+      → take i out ++ mapFrom f i (drop i out) ≡ take (i + 1) (set out i q) ++ mapFrom f (i + 1) (drop (i + 1) (set out i q))
+  unfolding mapFrom
+  map-step q h e = rw (add-one, drop-cons out i noRow h, ← e, take-suc-set out i q h, drop-set-lt (suc i) out i q (omega arith), append-snoc)
+
+  -- a row that f doesn't change isn't written
+  pub map-skip : i < length out → f i (getD out i noRow) ≡ getD out i noRow
+      → take i out ++ mapFrom f i (drop i out) ≡ take (i + 1) out ++ mapFrom f (i + 1) (drop (i + 1) out)
+  unfolding mapFrom
+  map-skip h e = rw (add-one, drop-cons out i noRow h, e, take-suc out i noRow h, append-snoc)
+
+pub map-map : (f g : ℕ → Row → Row) (i : ℕ) (l : List Row) → mapFrom g i (mapFrom f i l) ≡ mapFrom (λ j r. g j (f j r)) i l
+unfolding mapFrom
+map-map f g i [] = refl
+map-map f g i (r ∷ rs) = ap (λ x. g i (f i r) ∷ x) (map-map f g (suc i) rs)
+
+pub map-length : (f : ℕ → Row → Row) (l : List Row) (i : ℕ) → length (mapFrom f i l) ≡ length l
+unfolding mapFrom
+map-length f [] i = refl
+map-length f (r ∷ rs) i = ap suc (map-length f rs (suc i))
+
+pub map-at : (f : ℕ → Row → Row) (l : List Row) (i k : ℕ) → k < length l → getD (mapFrom f i l) k noRow ≡ f (i + k) (getD l k noRow)
+unfolding mapFrom
+map-at f [] i k h = absurd (omega arith)
+map-at f (r ∷ rs) i zero h = let z : i + 0 ≡ i = omega arith in rw z
+map-at f (r ∷ rs) i (suc k) h = let z : i + suc k ≡ suc i + k = omega arith in rw z (map-at f rs (suc i) k (omega arith))

@@ -1,0 +1,100 @@
+use Rattle.machine.specs.OnePass.{stageSeen}
+use Rattle.machine.specs.WellFormed.{stageFits}
+use borrow.Author.Tests.{lt-ltb, le-ltb, le-leb, lt-leb, eq-eqb, ne-eqb}
+use mathlib.Core.Path.{_∙_, sym}
+use borrow.Author.Needs.{needs}
+use Rattle.machine.proofs.see_guest.Statement.{statement}
+use Rattle.machine.proofs.see_guest.Tie as tie
+use Rattle.machine.proofs.see_guest.Reads as reads
+use Rattle.machine.proofs.see_guest.Lts as lts
+use Rattle.machine.proofs.age_of.Reads as age-of-reads
+use Rattle.machine.proofs.nothing.Reads as nothing-reads
+
+-- src/lib.rt:152:9
+nothing-requires : tie.Need-nothing-requires
+nothing-requires c κs = search needs
+
+-- src/lib.rt:152:9
+returns : tie.Need-returns
+unfolding stageFits
+returns c = rw (c .nothing .ensures, lt-leb _ _ (c .before .if1 .taken))
+
+-- src/lib.rt:154:9
+age-of-requires : tie.Need-age-of-requires
+age-of-requires c κs = search needs
+
+-- src/lib.rt:156:9
+nothing-requires-2 : tie.Need-nothing-requires-2
+nothing-requires-2 c κs = search needs
+
+-- src/lib.rt:156:9
+returns-2 : tie.Need-returns-2
+unfolding stageFits
+returns-2 c = rw (c .nothing2 .ensures, le-leb _ _ (c .before .before .before .if1 .left), lt-leb _ _ (c .before .if2 .taken))
+
+-- src/lib.rt:159:9
+nothing-requires-3 : tie.Need-nothing-requires-3
+nothing-requires-3 c κs = search needs
+
+-- src/lib.rt:159:9
+returns-3 : tie.Need-returns-3
+unfolding stageFits
+returns-3 c =
+    let p = c .before .before in
+    rw (c .nothing3 .ensures, le-leb _ _ (p .before .before .if1 .left), le-leb _ _ (p .if2 .left), ← p .before .age-of .ensures, lt-leb _ _ (c .before .if3 .taken))
+
+-- src/lib.rt:164:9
+returns-4 : tie.Need-returns-4
+unfolding stageFits stageSeen
+returns-4 c =
+    let p = c .before in
+    rw (
+      le-leb _ _ (p .before .before .before .if1 .left),
+      le-leb _ _ (p .before .if2 .left),
+      ← p .before .before .age-of .ensures,
+      le-leb _ _ (p .if3 .left),
+      eq-eqb _ _ (c .if4 .taken),
+    )
+
+-- src/lib.rt:148:1
+returns-5 : tie.Need-returns-5
+unfolding stageFits stageSeen
+returns-5 c =
+    let p = c .before .before in
+    rw (
+      le-leb _ _ (p .before .before .before .if1 .left),
+      le-leb _ _ (p .before .if2 .left),
+      ← p .before .before .age-of .ensures,
+      le-leb _ _ (p .if3 .left),
+      ne-eqb _ _ (c .before .if4 .left),
+      lt-ltb _ _ (c .if5 .taken),
+    )
+
+-- src/lib.rt:148:1
+returns-6 : tie.Need-returns-6
+unfolding stageFits stageSeen
+returns-6 c =
+    let p = c .before .before in
+    rw (
+      le-leb _ _ (p .before .before .before .if1 .left),
+      le-leb _ _ (p .before .if2 .left),
+      ← p .before .before .age-of .ensures,
+      le-leb _ _ (p .if3 .left),
+      ne-eqb _ _ (c .before .if4 .left),
+      le-ltb _ _ (c .if5 .left),
+    )
+
+pub see-guest-spec : {M : Type 1} → statement M
+see-guest-spec =
+    tie.close
+    (tie.spec
+    nothing-requires
+    returns
+    age-of-requires
+    nothing-requires-2
+    returns-2
+    nothing-requires-3
+    returns-3
+    returns-4
+    returns-5
+    returns-6)

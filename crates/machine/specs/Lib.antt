@@ -1,0 +1,5 @@
+pub mod Rows
+pub mod WellFormed
+pub mod TickRule
+pub mod Fresh
+pub mod OnePass

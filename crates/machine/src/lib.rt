@@ -1,0 +1,575 @@
+// The machine that runs an accepted table tick by tick: document 01, "The tick rule". Its rule is specs/TickRule.antt.
+ghost use mathlib.Core.Path.{_≡_};
+ghost use mathlib.Core.Bool.{Bool, true, false, cond, _||_};
+ghost use Prim.Native.Nat.{ℕ, _+_, _-_, _<_, _≤_, _^_};
+ghost use lib.Dec.{leb, ltb, eqb};
+ghost use Rattle.machine.specs.Rows.{age, inMask, withStage, isNever, isHyper, hasBudget};
+ghost use Rattle.machine.specs.WellFormed.{inLimits, fieldsFit, isBlank};
+ghost use Rattle.machine.specs.TickRule.{youngerThan, hypertaskRan, guestRan, nobodyRan, ranFrom, enforced, stepOf};
+ghost use Rattle.machine.specs.OnePass.{isDue, nothingSeen, surveyOf, stageOrUnfit, rowOrUnfit, pastFrom, firstKept, arrivalSeen, soonSeen, chosenBy, judgedOf, turnedRow};
+use refusals::Refusal;
+
+// A task's stage, with its own data.
+pub enum Stage {
+    Never,
+    // arrival, used
+    Guest(u64, u64),
+    // arrival, left
+    Hyper(u64, u64),
+    // arrival
+    Closed(u64),
+}
+
+pub struct Row {
+    pub t: u32,
+    pub d: u32,
+    pub c: u32,
+    pub k: u32,
+    pub e: u32,
+    pub stage: Stage,
+}
+
+pub struct Machine {
+    pub rows: [Row; 32],
+    pub count: usize,
+    pub clock: u64,
+}
+
+// Who ran in a tick: a task, from 1.
+pub enum Ran {
+    Nobody,
+    Guest(usize),
+    Hypertask(usize),
+}
+
+pub enum Mark {
+    Nothing,
+    Output,
+    BudgetUsedUp,
+}
+
+// What a tick that was taken says; ignored: a signal was.
+pub struct Taken {
+    pub ran: Ran,
+    pub mark: Mark,
+    pub ignored: bool,
+}
+
+pub enum Answer {
+    Taken(Taken),
+    Refused(Refusal),
+}
+
+pub struct Stepped {
+    pub machine: Machine,
+    pub answer: Answer,
+}
+
+// The next stage of the task that ran, and what the tick says of it.
+struct Outcome {
+    stage: Stage,
+    taken: Taken,
+}
+
+// What the pass over the rows finds: how many hypertasks have begun, and of each search the first place, 32 where there
+// is none. The last three are about the tasks in the mask: one that comes too soon, one that is Hyper, the lowest.
+struct Seen {
+    unfit: bool,
+    due: bool,
+    count: usize,
+    begun: usize,
+    waiting: usize,
+    ready: usize,
+    soon: usize,
+    hyper: usize,
+    lowest: usize,
+}
+
+// A tick is refused, or taken: how many rows steps 1 and 2 go over, and the place of the task that runs, 32 for nobody.
+enum Judged {
+    Refused(Refusal),
+    Accepted(usize, usize),
+}
+
+fn age_of(clock: u64, arrival: u64) -> u64
+    ensures { λ r. ⌜ r ≡ age clock arrival ⌝ }
+{
+    if arrival <= clock { clock - arrival } else { 0 }
+}
+
+fn named(mask: u32, i: usize) -> bool
+    requires { ⌜ i < 32 ⌝ }
+    ensures { λ r. ⌜ r ≡ inMask mask i ⌝ }
+{
+    (mask >> i) % 2 == 1
+}
+
+fn within(x: u32) -> bool
+    ensures { λ r. ⌜ r ≡ inLimits x ⌝ }
+{
+    (1 <= x) & (x <= 1_000_000)
+}
+
+// D at most T and E below D settle the other bounds of T and D.
+fn fields_fit(r: Row) -> bool
+    ensures { λ b. ⌜ b ≡ fieldsFit r ⌝ }
+{
+    (r.t <= 1_000_000) & ((r.d <= r.t) & ((r.e < r.d) & ((1 <= r.e) & (within(r.c) & within(r.k)))))
+}
+
+fn is_never(s: Stage) -> bool
+    ensures { λ r. ⌜ r ≡ isNever s ⌝ }
+{
+    match s {
+        Stage::Never => true,
+        Stage::Guest(_, _) => false,
+        Stage::Hyper(_, _) => false,
+        Stage::Closed(_) => false,
+    }
+}
+
+fn is_blank(r: Row) -> bool
+    ensures { λ b. ⌜ b ≡ isBlank r ⌝ }
+{
+    let s = r.stage;
+    (r.t == 0) & ((r.d == 0) & ((r.c == 0) & ((r.k == 0) & ((r.e == 0) & is_never(s)))))
+}
+
+fn nothing(unfit: bool) -> Seen
+    ensures { λ r. ⌜ r ≡ nothingSeen unfit ⌝ }
+{
+    Seen {
+        unfit: unfit,
+        due: false,
+        count: 0,
+        begun: 32,
+        waiting: 32,
+        ready: 32,
+        soon: 32,
+        hyper: 32,
+        lowest: 32,
+    }
+}
+
+// A Guest at place i: its clauses of "well formed", then what step 1 makes of it.
+fn see_guest(mut w: Seen, clock: u64, i: usize, c: u32, k: u32, e: u32, a: u64, u: u64) -> Seen
+    ensures { λ r. ⌜ r ≡ stageOrUnfit clock i c k e (Stage.Guest a u) w ⌝ }
+{
+    if clock < a {
+        return nothing(true);
+    }
+    let old = age_of(clock, a);
+    if (c as u64) < u {
+        return nothing(true);
+    }
+    if (e as u64) < old {
+        return nothing(true);
+    }
+    if old == e as u64 {
+        w.due = true;
+        w.waiting = i;
+        return w;
+    }
+    if u < c as u64 {
+        w.ready = i;
+    }
+    w
+}
+
+// A Hyper at place i.
+fn see_hyper(mut w: Seen, clock: u64, i: usize, c: u32, k: u32, e: u32, a: u64, l: u64) -> Seen
+    requires { ⌜ w .count < 32 ⌝ }
+    ensures { λ r. ⌜ r ≡ stageOrUnfit clock i c k e (Stage.Hyper a l) w ⌝ }
+{
+    if clock < a {
+        return nothing(true);
+    }
+    if l < 1 {
+        return nothing(true);
+    }
+    if (k as u64) < l {
+        return nothing(true);
+    }
+    if age_of(clock, a) <= e as u64 {
+        return nothing(true);
+    }
+    w.waiting = i;
+    if l < k as u64 {
+        w.count += 1;
+        w.begun = i;
+    }
+    w
+}
+
+fn see_stage(w: Seen, clock: u64, i: usize, c: u32, k: u32, e: u32, s: Stage) -> Seen
+    requires { ⌜ w .count < 32 ⌝ }
+    ensures { λ r. ⌜ r ≡ stageOrUnfit clock i c k e s w ⌝ }
+{
+    match s {
+        Stage::Never => w,
+        Stage::Guest(a, u) => see_guest(w, clock, i, c, k, e, a, u),
+        Stage::Hyper(a, l) => see_hyper(w, clock, i, c, k, e, a, l),
+        Stage::Closed(a) => { if a <= clock { w } else { nothing(true) } }
+    }
+}
+
+fn see_row(w: Seen, clock: u64, i: usize, r: Row) -> Seen
+    requires { ⌜ w .count < 32 ⌝ }
+    ensures { λ q. ⌜ q ≡ rowOrUnfit clock i r w ⌝ }
+{
+    let s = r.stage;
+    if fields_fit(r) {
+        see_stage(w, clock, i, r.c, r.k, r.e, s)
+    } else {
+        nothing(true)
+    }
+}
+
+fn is_younger(clock: u64, t: u32, s: Stage) -> bool
+    ensures { λ r. ⌜ r ≡ youngerThan clock t s ⌝ }
+{
+    match s {
+        Stage::Never => false,
+        Stage::Guest(a, _) => age_of(clock, a) < t as u64,
+        Stage::Hyper(a, _) => age_of(clock, a) < t as u64,
+        Stage::Closed(a) => age_of(clock, a) < t as u64,
+    }
+}
+
+fn is_hyper(s: Stage) -> bool
+    ensures { λ r. ⌜ r ≡ isHyper s ⌝ }
+{
+    match s {
+        Stage::Never => false,
+        Stage::Guest(_, _) => false,
+        Stage::Hyper(_, _) => true,
+        Stage::Closed(_) => false,
+    }
+}
+
+fn kept(x: usize, i: usize) -> usize
+    ensures { λ r. ⌜ r ≡ firstKept x i ⌝ }
+{
+    if x < 32 { x } else { i }
+}
+
+// A task in the mask that may arrive, unless it is Hyper.
+fn see_arrival(mut w: Seen, i: usize, s: Stage) -> Seen
+    ensures { λ r. ⌜ r ≡ arrivalSeen i s w ⌝ }
+{
+    w.lowest = kept(w.lowest, i);
+    if is_hyper(s) {
+        w.hyper = kept(w.hyper, i);
+    }
+    w
+}
+
+// A task in the mask that comes too soon.
+fn see_soon(mut w: Seen, i: usize) -> Seen
+    ensures { λ r. ⌜ r ≡ soonSeen i w ⌝ }
+{
+    w.soon = i;
+    w.hyper = 32;
+    w.lowest = 32;
+    w
+}
+
+fn pick(b: bool, x: usize, y: usize) -> usize
+    ensures { λ r. ⌜ r ≡ cond b x y ⌝ }
+{
+    if b { x } else { y }
+}
+
+// The pass: the places past the last row and the rows, from the last to the first, then the tasks in the mask, from the
+// first on, up to one that comes too soon. It is one function since an array by value is copied at each call, and its
+// loops end at count, which is not a constant: a loop to 32 is unrolled, and the array taken apart.
+fn survey(clock: u64, count: usize, mask: u32, rows: [Row; 32]) -> Seen
+    ensures { λ r. ⌜ r ≡ surveyOf clock count mask rows ⌝ }
+{
+    if 32 < count {
+        return nothing(true);
+    }
+    let mut i: usize = 32;
+    while count < i {
+        i -= 1;
+        let r = rows[i];
+        if !is_blank(r) {
+            return nothing(true);
+        }
+    }
+    let mut w = nothing(false);
+    while 0 < i {
+        i -= 1;
+        let r = rows[i];
+        w = see_row(w, clock, i, r);
+        if w.unfit {
+            return w;
+        }
+    }
+    let end = pick(mask == 0, 0, count);
+    while i < end {
+        if named(mask, i) {
+            let r = rows[i];
+            let s = r.stage;
+            if is_younger(clock, r.t, s) {
+                return see_soon(w, i);
+            }
+            w = see_arrival(w, i, s);
+        }
+        i += 1;
+    }
+    w
+}
+
+// The lowest task in the mask past the last row.
+fn lowest_past(mask: u32, count: usize) -> usize
+    requires { ⌜ count ≤ 32 ⌝ }
+    ensures { λ r. ⌜ r ≡ pastFrom mask count (32 - count) ⌝ }
+{
+    if (mask as u64) >> count == 0 {
+        return 32;
+    }
+    let mut i = count;
+    while i < 32 {
+        if named(mask, i) {
+            return i;
+        }
+        i += 1;
+    }
+    32
+}
+
+// The place of the task that runs, after the arrivals: the lowest of them is ready.
+fn choose(w: Seen) -> usize
+    ensures { λ r. ⌜ r ≡ chosenBy w ⌝ }
+{
+    if w.begun < 32 {
+        return w.begun;
+    }
+    if w.waiting < 32 {
+        return w.waiting;
+    }
+    if w.lowest < w.ready {
+        w.lowest
+    } else {
+        w.ready
+    }
+}
+
+// Refusals 8 to 12, in their order.
+fn judge(clock: u64, count: usize, mask: u32, rows: [Row; 32]) -> Judged
+    ensures { λ r. ⌜ r ≡ judgedOf clock count mask rows ⌝ }
+{
+    let w = survey(clock, count, mask, rows);
+    if w.unfit | ((1 < w.count) | ((count < 1) | (1_099_511_627_776 < clock))) {
+        return Judged::Refused(Refusal::NotWellFormed(0));
+    }
+    if clock == 1_099_511_627_776 {
+        return Judged::Refused(Refusal::ClockAtEnd(0));
+    }
+    let past = lowest_past(mask, count);
+    if past < 32 {
+        return Judged::Refused(Refusal::NoSuchTask(past + 1));
+    }
+    if w.soon < 32 {
+        return Judged::Refused(Refusal::ArrivalTooSoon(w.soon + 1));
+    }
+    if w.hyper < 32 {
+        return Judged::Refused(Refusal::ArrivalWhileHyper(w.hyper + 1));
+    }
+    Judged::Accepted(pick(w.due | (mask != 0), count, 0), choose(w))
+}
+
+fn is_due(clock: u64, e: u32, s: Stage) -> bool
+    ensures { λ r. ⌜ r ≡ isDue clock e s ⌝ }
+{
+    match s {
+        Stage::Never => false,
+        Stage::Guest(a, _) => age_of(clock, a) == e as u64,
+        Stage::Hyper(_, _) => false,
+        Stage::Closed(_) => false,
+    }
+}
+
+fn enforce(clock: u64, k: u32, e: u32, s: Stage) -> Stage
+    ensures { λ r. ⌜ r ≡ enforced clock k e s ⌝ }
+{
+    match s {
+        Stage::Never => s,
+        Stage::Guest(a, u) => {
+            if age_of(clock, a) == e as u64 {
+                Stage::Hyper(a, k as u64)
+            } else {
+                Stage::Guest(a, u)
+            }
+        }
+        Stage::Hyper(_, _) => s,
+        Stage::Closed(_) => s,
+    }
+}
+
+fn staged(r: Row, s: Stage) -> Row
+    ensures { λ q. ⌜ q ≡ withStage r s ⌝ }
+{
+    Row {
+        t: r.t,
+        d: r.d,
+        c: r.c,
+        k: r.k,
+        e: r.e,
+        stage: s,
+    }
+}
+
+// Steps 1 and 2 on the row at place i.
+fn turn(clock: u64, mask: u32, i: usize, r: Row) -> Row
+    requires { ⌜ i < 32 ⌝ }
+    ensures { λ q. ⌜ q ≡ turnedRow clock mask i r ⌝ }
+{
+    let s = r.stage;
+    if named(mask, i) {
+        staged(r, Stage::Guest(clock, 0))
+    } else {
+        staged(r, enforce(clock, r.k, r.e, s))
+    }
+}
+
+fn nobody(signal: u8) -> Taken
+    ensures { λ r. ⌜ r ≡ nobodyRan signal ⌝ }
+{
+    Taken {
+        ran: Ran::Nobody,
+        mark: Mark::Nothing,
+        ignored: signal != 0,
+    }
+}
+
+fn run_hypertask(task: usize, signal: u8, early: bool, a: u64, l: u64) -> Outcome
+    ensures { λ r. ⌜ r ≡ hypertaskRan task signal early a (l - 1) ⌝ }
+{
+    let last = l <= 1;
+    let ran = Ran::Hypertask(task);
+    let ignored = signal != 0;
+    if early | last {
+        Outcome {
+            stage: Stage::Closed(a),
+            taken: Taken {
+                ran: ran,
+                mark: Mark::Output,
+                ignored: ignored,
+            },
+        }
+    } else {
+        Outcome {
+            stage: Stage::Hyper(a, l - 1),
+            taken: Taken {
+                ran: ran,
+                mark: Mark::Nothing,
+                ignored: ignored,
+            },
+        }
+    }
+}
+
+fn run_guest(task: usize, signal: u8, c: u32, a: u64, u: u64) -> Outcome
+    requires { ⌜ u < c ⌝ }
+    ensures { λ r. ⌜ r ≡ guestRan task signal c a (u + 1) ⌝ }
+{
+    let ran = Ran::Guest(task);
+    let ignored = signal != 0;
+    let used = u + 1;
+    if signal as usize == task {
+        return Outcome {
+            stage: Stage::Closed(a),
+            taken: Taken {
+                ran: ran,
+                mark: Mark::Output,
+                ignored: false,
+            },
+        };
+    }
+    if used == c as u64 {
+        Outcome {
+            stage: Stage::Guest(a, used),
+            taken: Taken {
+                ran: ran,
+                mark: Mark::BudgetUsedUp,
+                ignored: ignored,
+            },
+        }
+    } else {
+        Outcome {
+            stage: Stage::Guest(a, used),
+            taken: Taken {
+                ran: ran,
+                mark: Mark::Nothing,
+                ignored: ignored,
+            },
+        }
+    }
+}
+
+// Step 4, for the task that was chosen.
+fn run(task: usize, signal: u8, early: bool, c: u32, s: Stage) -> Outcome
+    requires { ⌜ (isHyper s || hasBudget c s) ≡ true ⌝ }
+    ensures { λ r. ⌜ r ≡ ranFrom task signal early c s ⌝ }
+{
+    match s {
+        Stage::Never => Outcome {
+            stage: s,
+            taken: nobody(signal),
+        },
+        Stage::Guest(a, u) => run_guest(task, signal, c, a, u),
+        Stage::Hyper(a, l) => run_hypertask(task, signal, early, a, l),
+        Stage::Closed(_) => Outcome {
+            stage: s,
+            taken: nobody(signal),
+        },
+    }
+}
+
+impl Machine {
+    // One tick: the next machine and the answer; a refused tick returns the machine it was given.
+    pub fn step(mut self, mask: u32, signal: u8, early: bool) -> Stepped
+        ensures { λ r. ⌜ r ≡ stepOf self mask signal early ⌝ }
+    {
+        let rows = self.rows;
+        match judge(self.clock, self.count, mask, rows) {
+            Judged::Refused(refusal) => Stepped {
+                machine: self,
+                answer: Answer::Refused(refusal),
+            },
+            Judged::Accepted(turns, place) => {
+                let mut i: usize = 0;
+                while i < turns {
+                    let r = self.rows[i];
+                    let s = r.stage;
+                    if named(mask, i) | is_due(self.clock, r.e, s) {
+                        let q = turn(self.clock, mask, i, r);
+                        self.rows[i] = q;
+                    }
+                    i += 1;
+                }
+                self.clock += 1;
+                if place < 32 {
+                    let r = self.rows[place];
+                    let s = r.stage;
+                    let o = run(place + 1, signal, early, r.c, s);
+                    let next = o.stage;
+                    let taken = o.taken;
+                    let q = staged(r, next);
+                    self.rows[place] = q;
+                    Stepped {
+                        machine: self,
+                        answer: Answer::Taken(taken),
+                    }
+                } else {
+                    Stepped {
+                        machine: self,
+                        answer: Answer::Taken(nobody(signal)),
+                    }
+                }
+            }
+        }
+    }
+}
