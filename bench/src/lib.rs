@@ -2,6 +2,8 @@
 
 pub mod analysis;
 pub mod clock;
+pub mod machine;
+pub mod machine_numbers;
 pub mod planner_tables;
 pub mod rounds;
 

@@ -2,6 +2,8 @@
 //! src/analysis.rs with one edit each (edits.rs).
 
 mod edits;
+mod edits_machine;
+mod edits_plan;
 
 use edits::{Edit, ANALYSIS};
 use std::path::PathBuf;
@@ -10,6 +12,8 @@ use std::{env, fs};
 fn main() {
     link_search();
     write_broken();
+    edits_machine::write_broken_machines();
+    edits_plan::write_broken_plans();
 }
 
 /// The folder of libexport.a: TOLLSALMON_LIB, or the repository's target/staticlib.

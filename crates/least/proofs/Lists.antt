@@ -4,7 +4,7 @@ use mathlib.Core.Path.{_≡_, refl, sym, ap, _∙_}
 use mathlib.Core.Logic.{_⊎_, ⊎-elim}
 use mathlib.Core.List.{List, [], _∷_, _++_, append-assoc}
 use Prim.Native.Nat.{ℕ, zero, suc, _+_, _-_, _*_, _≤_, _<_}
-use native.Mathlib.Nat.{lt-irrefl, eq-or-lt-of-le, le-of-suc-le-suc, mul-suc, mul-zero}
+use native.Mathlib.Nat.{lt-irrefl, eq-or-lt-of-le, le-of-suc-le-suc, mul-suc, mul-zero, zero-add}
 use native.Mathlib.Numerals.{add-one}
 use native.Mathlib.Omega.{arith}
 use lib.ListN.{length, getD, set, take, drop, replicate, length-append, List·getD-append}
@@ -43,16 +43,28 @@ module _ {A : Type 0} where
       ap (λ (x : ℕ). drop (x + w) (p ++ drop m o)) (sym e) ∙ drop-append-add p (drop m o) w ∙ drop-drop w m o in
       rw (take-at p (drop m o) m e, d)
 
-  -- one turn of a loop that writes blocks of w into lent memory o
+  -- one turn of a loop that writes blocks of w into lent memory o, after what stands at its front
+  pub block-after : (p : List A) (a : ℕ) → length p ≡ a → (f : ℕ → List A) (w : ℕ) → ((i : ℕ) → length (f i) ≡ w) → (o out : List A) (i : ℕ)
+      → out ≡ p ++ flat f i ++ drop (a + w * i) o
+      → take (a + w * i) out ++ f i ++ drop (a + w * i + w) out ≡ p ++ flat f (i + 1) ++ drop (a + w * (i + 1)) o
+  unfolding flat
+  block-after p a l f w h o out i e =
+      let z : a + w * i + w ≡ a + w * (i + 1) = omega (arith, mul-suc w i, ap (_*_ w) (add-one i)) in
+      let long : length (p ++ flat f i) ≡ a + w * i = omega (arith, length-append p (flat f i), l, length-flat f w h i) in
+      ap (λ (x : List A). take (a + w * i) x ++ f i ++ drop (a + w * i + w) x) e
+      ∙ at-end (p ++ flat f i) (f i) o (a + w * i) w long
+      ∙ ap (λ (x : ℕ). p ++ flat f i ++ f i ++ drop x o) z
+      ∙ ap (λ (x : List A). x ++ drop (a + w * (i + 1)) o) (append-assoc p (flat f i) (f i))
+      ∙ ap (λ (x : ℕ). p ++ flat f x ++ drop (a + w * (i + 1)) o) (sym (add-one i))
+
+  -- .. or at its very front
   pub block-more : (f : ℕ → List A) (w : ℕ) → ((i : ℕ) → length (f i) ≡ w) → (o out : List A) (i : ℕ) → out ≡ flat f i ++ drop (w * i) o
       → take (w * i) out ++ f i ++ drop (w * i + w) out ≡ flat f (i + 1) ++ drop (w * (i + 1)) o
-  unfolding flat
   block-more f w h o out i e =
-      let z : w * i + w ≡ w * (i + 1) = omega (arith, mul-suc w i, ap (_*_ w) (add-one i)) in
-      ap (λ (x : List A). take (w * i) x ++ f i ++ drop (w * i + w) x) e
-      ∙ at-end (flat f i) (f i) o (w * i) w (length-flat f w h i)
-      ∙ ap (λ (x : ℕ). flat f i ++ f i ++ drop x o) z
-      ∙ ap (λ (x : ℕ). flat f x ++ drop (w * (i + 1)) o) (sym (add-one i))
+      let z : 0 + w * i ≡ w * i = zero-add (w * i) in
+      let y : 0 + w * (i + 1) ≡ w * (i + 1) = zero-add (w * (i + 1)) in
+      let b = block-after [] 0 refl f w h o out i (e ∙ ap (λ (x : ℕ). flat f i ++ drop x o) (sym z)) in
+      ap (λ (x : ℕ). take x out ++ f i ++ drop (x + w) out) (sym z) ∙ b ∙ ap (λ (x : ℕ). flat f (i + 1) ++ drop x o) y
 
   -- lists from functions that agree
   pub flat-same : (f g : ℕ → List A) (n : ℕ) → ((i : ℕ) → i < n → f i ≡ g i) → flat f n ≡ flat g n

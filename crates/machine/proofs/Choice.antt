@@ -1,17 +1,17 @@
 -- Who runs after steps 1 and 2, told from the rows before them: in an accepted tick a task that arrives was Never or Closed,
 -- since E < D ≤ T. Assumes nothing.
-use mathlib.Core.Path.{_≡_, refl, _∙_, ap, sym}
-use mathlib.Core.Bool.{Bool, true, false, not, _&&_, _||_, cond, true≢false}
+use mathlib.Core.Path.{_≡_, refl}
+use mathlib.Core.Bool.{Bool, true, false, _||_, cond, true≢false}
 use mathlib.Core.List.{List, [], _∷_}
-use Prim.Native.Nat.{ℕ, zero, suc, _+_, _-_, _≤_, _<_, _^_}
+use Prim.Native.Nat.{ℕ, suc, _-_, _≤_, _<_}
 use native.Mathlib.Omega.{arith}
-use lib.Dec.{leb, ltb, eqb}
+use lib.Dec.{leb, eqb}
 use lib.ListN.{length, getD}
-use borrow.Author.Tests.{ltb-true, ltb-false, leb-false, lt-ltb, le-ltb, eqb-true, not-false}
+use borrow.Author.Tests.{ltb-false, leb-false, lt-ltb, le-ltb, eqb-true, not-false}
 use Rattle.machine.specs.declared.Stage.{Stage}
 use Rattle.machine.specs.declared.Row.{Row}
 use Rattle.machine.specs.Rows.{noRow, inMask, age, Found, at, none, firstFrom, first, orElse, mapFrom, isHyper, hasBegun, hasBudget}
-use Rattle.machine.specs.WellFormed.{rowFits, fieldsFit, stageFits, isBlank}
+use Rattle.machine.specs.WellFormed.{rowFits, fieldsFit, stageFits}
 use Rattle.machine.specs.TickRule.{youngerThan, pastLast, tooSoon, whileHyper, enforced, begun, waiting, ready, chosen, turned}
 use Rattle.machine.specs.OnePass.{place, misplaced, willWait, willBeReady, seenFrom, withArrivals, chosenBy, turnedRow}
 use Rattle.machine.proofs.Tests.{both, fields-say}
@@ -40,7 +40,7 @@ taking-next clock count mask i r rs t =
     }
 
 -- step 1 begins no hypertask
-begun-stays : (clock k e : ℕ) (s : Stage) → hasBegun k (enforced clock k e s) ≡ hasBegun k s
+pub begun-stays : (clock k e : ℕ) (s : Stage) → hasBegun k (enforced clock k e s) ≡ hasBegun k s
 begun-stays clock k e Stage.Never = refl
 begun-stays clock k e (Stage.Guest a u) = go (eqb (age clock a) e)
   where
@@ -50,7 +50,7 @@ begun-stays clock k e (Stage.Guest a u) = go (eqb (age clock a) e)
 begun-stays clock k e (Stage.Hyper a l) = refl
 begun-stays clock k e (Stage.Closed a) = refl
 
-not-begun : (k : ℕ) (s : Stage) → isHyper s ≡ false → hasBegun k s ≡ false
+pub not-begun : (k : ℕ) (s : Stage) → isHyper s ≡ false → hasBegun k s ≡ false
 not-begun k Stage.Never h = refl
 not-begun k (Stage.Guest a u) h = refl
 not-begun k (Stage.Hyper a l) h = absurd (true≢false h)

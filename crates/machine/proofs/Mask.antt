@@ -1,8 +1,8 @@
 -- The walk over the tasks in the mask, from the first to the last, finds what the searches find. Assumes nothing.
-use mathlib.Core.Path.{_≡_, refl, _∙_, ap, sym}
-use mathlib.Core.Bool.{Bool, true, false, not, _&&_, cond, true≢false}
+use mathlib.Core.Path.{_≡_, refl, _∙_}
+use mathlib.Core.Bool.{Bool, true, false, _&&_, cond}
 use mathlib.Core.List.{List, [], _∷_}
-use Prim.Native.Nat.{ℕ, zero, suc, _+_, _-_, _≤_, _<_, _/_, _%_, _^_}
+use Prim.Native.Nat.{ℕ, zero, suc, _+_, _-_, _≤_, _<_, _/_, _^_}
 use native.Mathlib.Numerals.{add-one}
 use native.Mathlib.Nat.{zero-div}
 use native.Mathlib.Omega.{arith}
@@ -10,8 +10,7 @@ use lib.Dec.{leb, ltb, eqb}
 use lib.ListN.{length, getD, take, drop, length-drop, drop-of-length-le}
 use lib.Pow.{shr-shr}
 use lib.Seq.{drop-cons, take-nil, getD-take, length-take-le}
-use borrow.Author.Tests.{ltb-true, ltb-false, eqb-true, lt-ltb, le-ltb, le-leb, lt-leb}
-use Rattle.machine.specs.declared.Stage.{Stage}
+use borrow.Author.Tests.{ltb-true, ltb-false, eqb-true, lt-ltb, le-leb, lt-leb}
 use Rattle.machine.specs.declared.Row.{Row}
 use Rattle.machine.specs.declared.Seen.{Seen}
 use Rattle.machine.specs.Rows.{noRow, inMask, Found, at, none, firstFrom, first, isHyper}

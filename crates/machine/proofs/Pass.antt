@@ -1,11 +1,10 @@
 -- The pass over the rows, from the last to the first, finds what the searches find. Assumes nothing.
-use mathlib.Core.Path.{_≡_, refl, _∙_, ap, sym}
-use mathlib.Core.Bool.{Bool, true, false, not, _&&_, cond, true≢false}
-use mathlib.Core.List.{List, [], _∷_}
-use Prim.Native.Nat.{ℕ, zero, suc, _+_, _-_, _≤_, _<_}
+use mathlib.Core.Path.{_≡_, refl, _∙_, sym}
+use mathlib.Core.Bool.{Bool, true, false, true≢false}
+use mathlib.Core.List.{List, _∷_}
+use Prim.Native.Nat.{ℕ, suc, _-_, _≤_, _<_}
 use native.Mathlib.Numerals.{add-one}
 use native.Mathlib.Omega.{arith}
-use lib.Dec.{leb, ltb, eqb}
 use lib.ListN.{length, getD, take, drop, drop-of-length-le, length-drop}
 use lib.Seq.{drop-cons}
 use borrow.Author.Tests.{lt-ltb, le-ltb, le-leb, lt-leb}
@@ -14,7 +13,8 @@ use Rattle.machine.specs.declared.Seen.{Seen}
 use Rattle.machine.specs.Rows.{noRow, none, firstFrom, first, howMany, hasBegun, hasBudget}
 use Rattle.machine.specs.WellFormed.{rowFits, isBlank, begunRow}
 use Rattle.machine.specs.TickRule.{enforced, begun}
-use Rattle.machine.specs.OnePass.{place, isNone, misplaced, isDue, due, willWait, willBeReady, nothingSeen, seenFrom, surveyOf, arrivalsFrom, stageSeen, rowOrUnfit}
+use Rattle.machine.specs.OnePass.{place, misplaced, isDue, due, willWait, willBeReady, nothingSeen, seenFrom, surveyOf, arrivalsFrom, stageSeen}
+use Rattle.machine.specs.OnePass.{rowOrUnfit}
 use Rattle.machine.proofs.Tests.{blank-never}
 use Rattle.machine.proofs.Searches.{none-intro, some-at, place-cond, some-cond, count-le}
 
@@ -29,17 +29,17 @@ unfit-row clock i r w f h = go (rowFits clock r) refl h
     go false e q = (e, rw e)
 
 pub fit-row : (clock i : ℕ) (r : Row) (w : Seen) → rowOrUnfit clock i r w .unfit ≡ false
-    → (rowFits clock r ≡ true) × (rowOrUnfit clock i r w ≡ stageSeen clock i (r .c) (r .k) (r .e) (r .stage) w)
+    → (rowFits clock r ≡ true) × (rowOrUnfit clock i r w ≡ stageSeen clock i r (r .stage) w)
 fit-row clock i r w h = go (rowFits clock r) refl h
   where
     go : (b : Bool) → rowFits clock r ≡ b → rowOrUnfit clock i r w .unfit ≡ false
-        → (rowFits clock r ≡ true) × (rowOrUnfit clock i r w ≡ stageSeen clock i (r .c) (r .k) (r .e) (r .stage) w)
+        → (rowFits clock r ≡ true) × (rowOrUnfit clock i r w ≡ stageSeen clock i r (r .stage) w)
     go true e q = (e, rw e)
     go false e q = let z : true ≡ false = rw e at q in absurd (true≢false z)
 
 module _ (clock : ℕ) where
   seen-row : (i : ℕ) (r : Row) (rs : List Row)
-      → stageSeen clock i (r .c) (r .k) (r .e) (r .stage) (seenFrom clock (suc i) rs) ≡ seenFrom clock i (r ∷ rs)
+      → stageSeen clock i r (r .stage) (seenFrom clock (suc i) rs) ≡ seenFrom clock i (r ∷ rs)
   unfolding seenFrom stageSeen firstFrom howMany
   seen-row i r rs =
       rw (
@@ -50,7 +50,8 @@ module _ (clock : ℕ) where
         place-cond (hasBudget (r .c) (enforced clock (r .k) (r .e) (r .stage))) i (firstFrom (willBeReady clock) (suc i) rs),
       )
 
-  seen-blank : (i : ℕ) (r : Row) (rs : List Row) → isBlank r ≡ true → seenFrom clock (suc i) rs ≡ nothingSeen false → seenFrom clock i (r ∷ rs) ≡ nothingSeen false
+  seen-blank : (i : ℕ) (r : Row) (rs : List Row) → isBlank r ≡ true → seenFrom clock (suc i) rs ≡ nothingSeen false
+      → seenFrom clock i (r ∷ rs) ≡ nothingSeen false
   unfolding stageSeen
   seen-blank i r rs k e = rw (← seen-row i r rs, blank-never r k, e)
 
@@ -60,7 +61,7 @@ module _ (clock count : ℕ) (rows : List Row) (i : ℕ) where
       → firstFrom (misplaced clock count) i (drop i rows) ≡ none
       → (firstFrom (misplaced clock count) (i - 1) (drop (i - 1) rows) ≡ none)
       × (seenFrom clock (i - 1) (drop (i - 1) rows)
-      ≡ (let r : Row = getD rows (i - 1) noRow in stageSeen clock (i - 1) (r .c) (r .k) (r .e) (r .stage) (seenFrom clock i (drop i rows))))
+      ≡ (let r : Row = getD rows (i - 1) noRow in stageSeen clock (i - 1) r (r .stage) (seenFrom clock i (drop i rows))))
   back-row a b c ok free =
       let up : suc (i - 1) ≡ i = omega arith in
       let fit : misplaced clock count (i - 1) (getD rows (i - 1) noRow) ≡ false = rw (lt-ltb (i - 1) count (omega arith), ok) in

@@ -5,10 +5,10 @@ use mathlib.Core.List.{List, [], _∷_, _++_}
 use Prim.Native.Nat.{ℕ, zero, suc, _+_, _-_, _≤_, _<_}
 use native.Mathlib.Numerals.{add-one}
 use native.Mathlib.Omega.{arith}
-use lib.Dec.{leb, ltb, eqb}
-use lib.ListN.{length, getD, take, drop, set, drop-of-length-le}
+use lib.Dec.{ltb}
+use lib.ListN.{length, getD, take, drop, set}
 use lib.Seq.{drop-cons, drop-nil, take-nil, take-suc, take-suc-set, drop-set-lt, append-snoc}
-use borrow.Author.Tests.{ltb-true, ltb-false, leb-true, lt-ltb, le-ltb}
+use borrow.Author.Tests.{ltb-true, ltb-false, lt-ltb, le-ltb}
 use Rattle.machine.specs.declared.Row.{Row}
 use Rattle.machine.specs.Rows.{noRow, Found, at, none, firstFrom, first, orElse, mapFrom, every, howMany}
 use Rattle.machine.specs.OnePass.{place, isNone}
@@ -130,7 +130,8 @@ place-from p i (r ∷ rs) h = go (p i r) (place-from p (suc i) rs (omega arith))
     go false q = omega arith
 
 pub first-either : (p q : ℕ → Row → Bool) (i : ℕ) (l : List Row) → i + length l ≤ 32
-    → place (firstFrom (λ j r. p j r || q j r) i l) ≡ cond (ltb (place (firstFrom p i l)) (place (firstFrom q i l))) (place (firstFrom p i l)) (place (firstFrom q i l))
+    → place (firstFrom (λ j r. p j r || q j r) i l)
+    ≡ cond (ltb (place (firstFrom p i l)) (place (firstFrom q i l))) (place (firstFrom p i l)) (place (firstFrom q i l))
 unfolding firstFrom
 first-either p q i [] h = refl
 first-either p q i (r ∷ rs) h =

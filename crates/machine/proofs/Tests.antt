@@ -1,10 +1,10 @@
 -- Laws of tests, and what the tests of a row and its stage say. Assumes nothing.
 use mathlib.Core.Path.{_≡_, refl, _∙_, sym}
-use mathlib.Core.Bool.{Bool, true, false, not, cond, _&&_, _||_, true≢false}
-use Prim.Native.Nat.{ℕ, suc, _+_, _-_, _≤_, _<_}
+use mathlib.Core.Bool.{Bool, true, false, not, _&&_, _||_, true≢false}
+use Prim.Native.Nat.{ℕ, _+_, _-_, _≤_, _<_}
 use native.Mathlib.Omega.{arith}
 use lib.Dec.{leb, ltb, eqb}
-use borrow.Author.Tests.{ltb-true, ltb-false, leb-true, leb-false, lt-ltb, le-ltb, le-leb, eqb-true, eq-eqb}
+use borrow.Author.Tests.{ltb-true, leb-true, leb-false, lt-ltb, le-ltb, le-leb, eqb-true, eq-eqb}
 use Rattle.machine.specs.declared.Stage.{Stage}
 use Rattle.machine.specs.declared.Row.{Row}
 use Rattle.machine.specs.Rows.{age, isNever}
@@ -52,7 +52,11 @@ last-tick l =
     (λ q. eq-eqb (l - 1) 0 (omega (arith, leb-true l 1 q)))
     (λ q. le-leb l 1 (omega (arith, eqb-true (l - 1) 0 q)))
 
--- the age of a job: none when it arrives, and one more with each tick
+-- the age of a job: what the arrival lacks to the clock; none when it arrives, and one more with each tick
+pub age-sum : (clock arrival : ℕ) → arrival ≤ clock → arrival + age clock arrival ≡ clock
+unfolding age
+age-sum clock arrival h = omega arith
+
 pub age-now : (clock : ℕ) → age clock clock ≡ 0
 unfolding age
 age-now clock = omega arith

@@ -3,9 +3,9 @@
 use mathlib.Core.Path.{_≡_, refl, _∙_, ap, sym}
 use mathlib.Core.Bool.{Bool, true, false, not, _&&_, _||_, cond, true≢false}
 use mathlib.Core.List.{List, [], _∷_, _++_}
-use Prim.Native.Nat.{ℕ, zero, suc, _+_, _-_, _≤_, _<_, _^_}
+use Prim.Native.Nat.{ℕ, suc, _+_, _-_, _≤_, _<_, _^_}
 use native.Mathlib.Omega.{arith}
-use lib.Dec.{leb, ltb, eqb}
+use lib.Dec.{leb, eqb}
 use lib.ListN.{length, getD, set, take, drop, length-set, take-append-drop}
 use lib.Seq.{drop-set-lt}
 use borrow.Author.Tests.{le-ltb, le-leb, eqb-true, not-false}
@@ -15,12 +15,13 @@ use Rattle.machine.specs.declared.Row.{Row}
 use Rattle.machine.specs.declared.Machine.{Machine}
 use Rattle.machine.specs.declared.Seen.{Seen}
 use Rattle.machine.specs.declared.Judged.{Judged}
-use Rattle.machine.specs.Rows.{noRow, inMask, Found, at, none, firstFrom, first, mapFrom, isHyper, hasBudget}
-use Rattle.machine.specs.WellFormed.{isBlank, wellFormed}
+use Rattle.machine.specs.Rows.{noRow, inMask, at, none, firstFrom, first, mapFrom, isHyper, hasBudget}
+use Rattle.machine.specs.WellFormed.{isBlank}
 use Rattle.machine.specs.TickRule.{pastLast, Verdict, refused, accepted, verdict, enforced, chosen, turned}
-use Rattle.machine.specs.OnePass.{place, isNone, misplaced, isDue, due, seenFrom, withArrivals, chosenBy, turnsOf, judgedBy, judgedOf, turnedRow}
+use Rattle.machine.specs.OnePass.{place, isNone, misplaced, isDue, due, seenFrom, withArrivals, chosenBy, turnsOf, judgedBy, judgedOf}
+use Rattle.machine.specs.OnePass.{turnedRow}
 use Rattle.machine.proofs.Tests.{both, first-fails, blank-never}
-use Rattle.machine.proofs.Searches.{none-cons, none-drop, is-none, below, place-found, place-none, map-step, map-skip, map-length}
+use Rattle.machine.proofs.Searches.{none-cons, none-drop, is-none, below, place-found, place-none, map-step, map-skip}
 use Rattle.machine.proofs.Mask.{inMaskAt, empty-mask}
 use Rattle.machine.proofs.Verdicts.{formed, passed}
 use Rattle.machine.proofs.Choice.{Taking, taking-next, turned-law, chosen-law, chosen-runs}

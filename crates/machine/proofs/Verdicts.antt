@@ -1,8 +1,8 @@
 -- What the pass and the walk find decides as refusals 8 to 12 do. Assumes nothing.
 use mathlib.Core.Path.{_≡_, refl, _∙_, ap, sym}
-use mathlib.Core.Bool.{Bool, true, false, not, _&&_, _||_, cond, true≢false}
-use mathlib.Core.List.{List, [], _∷_}
-use Prim.Native.Nat.{ℕ, zero, suc, _+_, _-_, _≤_, _<_, _^_}
+use mathlib.Core.Bool.{Bool, true, false, not, _&&_, _||_, cond}
+use mathlib.Core.List.{List}
+use Prim.Native.Nat.{ℕ, _+_, _-_, _≤_, _<_, _^_}
 use native.Mathlib.Omega.{arith}
 use lib.Dec.{leb, ltb, eqb}
 use lib.ListN.{length, take, drop}
@@ -12,10 +12,10 @@ use Rattle.refusals.specs.declared.Refusal.{Refusal}
 use Rattle.machine.specs.declared.Row.{Row}
 use Rattle.machine.specs.declared.Machine.{Machine}
 use Rattle.machine.specs.declared.Seen.{Seen}
-use Rattle.machine.specs.Rows.{inMask, Found, at, none, firstFrom, first, every, howMany}
+use Rattle.machine.specs.Rows.{inMask, Found, at, none, first, every, howMany}
 use Rattle.machine.specs.WellFormed.{rowFits, isBlank, begunRow, wellFormed}
 use Rattle.machine.specs.TickRule.{pastLast, tooSoon, whileHyper, Verdict, refused, accepted, refuseAt, verdict}
-use Rattle.machine.specs.OnePass.{place, isNone, misplaced, seenFrom, surveyOf, pastFrom, withArrivals, arrivalsFrom}
+use Rattle.machine.specs.OnePass.{place, isNone, misplaced, seenFrom, surveyOf, pastFrom, withArrivals}
 use Rattle.machine.proofs.Tests.{both, and-false, and-true, not-leb}
 use Rattle.machine.proofs.Searches.{every-place, is-none, below, place-found, place-none}
 use Rattle.machine.proofs.Mask.{inMaskAt, past-law, part-first, arrivalsBy, arrivals-law}

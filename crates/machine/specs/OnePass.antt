@@ -11,7 +11,7 @@ use Rattle.machine.specs.declared.Machine.{Machine}
 use Rattle.machine.specs.declared.Seen.{Seen}
 use Rattle.machine.specs.declared.Judged.{Judged}
 use Rattle.machine.specs.Rows.{inMask, age, Found, at, none, firstFrom, first, howMany, isHyper, hasBegun, hasBudget, withStage}
-use Rattle.machine.specs.WellFormed.{rowFits, stageFits, fieldsFit, isBlank, begunRow}
+use Rattle.machine.specs.WellFormed.{rowFits, stageFits, isBlank, begunRow}
 use Rattle.machine.specs.TickRule.{youngerThan, Verdict, refused, accepted, verdict, enforced, begun, turned, chosen}
 
 -- what was found as a number: the place, or 32
@@ -64,26 +64,26 @@ seenFrom clock i l =
       lowest = 32;
     }
 
--- one stage more, at place i
-unfoldable pub stageSeen : ℕ → ℕ → ℕ → ℕ → ℕ → Stage → Seen → Seen
-stageSeen clock i c k e s w =
+-- one row more, at place i, by its stage s
+unfoldable pub stageSeen : ℕ → ℕ → Row → Stage → Seen → Seen
+stageSeen clock i r s w =
     record {
       unfit = w .unfit;
-      due = cond (isDue clock e s) true (w .due);
-      count = cond (hasBegun k s) (w .count + 1) (w .count);
-      begun = cond (hasBegun k s) i (w .begun);
-      waiting = cond (isHyper (enforced clock k e s)) i (w .waiting);
-      ready = cond (hasBudget c (enforced clock k e s)) i (w .ready);
+      due = cond (isDue clock (r .e) s) true (w .due);
+      count = cond (hasBegun (r .k) s) (w .count + 1) (w .count);
+      begun = cond (hasBegun (r .k) s) i (w .begun);
+      waiting = cond (isHyper (enforced clock (r .k) (r .e) s)) i (w .waiting);
+      ready = cond (hasBudget (r .c) (enforced clock (r .k) (r .e) s)) i (w .ready);
       soon = w .soon;
       hyper = w .hyper;
       lowest = w .lowest;
     }
 
-abbrev pub stageOrUnfit : ℕ → ℕ → ℕ → ℕ → ℕ → Stage → Seen → Seen
-stageOrUnfit clock i c k e s w = cond (stageFits clock c k e s) (stageSeen clock i c k e s w) (nothingSeen true)
+abbrev pub stageOrUnfit : ℕ → ℕ → Row → Stage → Seen → Seen
+stageOrUnfit clock i r s w = cond (stageFits clock (r .c) (r .k) (r .e) s) (stageSeen clock i r s w) (nothingSeen true)
 
 abbrev pub rowOrUnfit : ℕ → ℕ → Row → Seen → Seen
-rowOrUnfit clock i r w = cond (rowFits clock r) (stageSeen clock i (r .c) (r .k) (r .e) (r .stage) w) (nothingSeen true)
+rowOrUnfit clock i r w = cond (rowFits clock r) (stageSeen clock i r (r .stage) w) (nothingSeen true)
 
 -- The walk over the tasks in the mask, from the first to the last
 

@@ -1,12 +1,12 @@
 // The machine that runs an accepted table tick by tick: document 01, "The tick rule". Its rule is specs/TickRule.antt.
 ghost use mathlib.Core.Path.{_≡_};
-ghost use mathlib.Core.Bool.{Bool, true, false, cond, _||_};
-ghost use Prim.Native.Nat.{ℕ, _+_, _-_, _<_, _≤_, _^_};
-ghost use lib.Dec.{leb, ltb, eqb};
+ghost use mathlib.Core.Bool.{true, cond, _||_};
+ghost use Prim.Native.Nat.{_+_, _-_, _<_, _≤_};
 ghost use Rattle.machine.specs.Rows.{age, inMask, withStage, isNever, isHyper, hasBudget};
 ghost use Rattle.machine.specs.WellFormed.{inLimits, fieldsFit, isBlank};
 ghost use Rattle.machine.specs.TickRule.{youngerThan, hypertaskRan, guestRan, nobodyRan, ranFrom, enforced, stepOf};
-ghost use Rattle.machine.specs.OnePass.{isDue, nothingSeen, surveyOf, stageOrUnfit, rowOrUnfit, pastFrom, firstKept, arrivalSeen, soonSeen, chosenBy, judgedOf, turnedRow};
+ghost use Rattle.machine.specs.OnePass.{isDue, nothingSeen, stageOrUnfit, rowOrUnfit, firstKept, arrivalSeen, soonSeen};
+ghost use Rattle.machine.specs.OnePass.{surveyOf, pastFrom, chosenBy, judgedOf, turnedRow};
 use refusals::Refusal;
 
 // A task's stage, with its own data.
@@ -20,6 +20,7 @@ pub enum Stage {
     Closed(u64),
 }
 
+// A row: T, D, C, K, the enforcement offset E, and the task's stage.
 pub struct Row {
     pub t: u32,
     pub d: u32,
@@ -29,6 +30,7 @@ pub struct Row {
     pub stage: Stage,
 }
 
+// The rows, how many there are, and the clock; places past the last row are zero and Never.
 pub struct Machine {
     pub rows: [Row; 32],
     pub count: usize,
@@ -42,6 +44,7 @@ pub enum Ran {
     Hypertask(usize),
 }
 
+// What the tick gave: an output, or the last tick of a guest's budget without one.
 pub enum Mark {
     Nothing,
     Output,
@@ -55,11 +58,13 @@ pub struct Taken {
     pub ignored: bool,
 }
 
+// A tick is taken or refused.
 pub enum Answer {
     Taken(Taken),
     Refused(Refusal),
 }
 
+// The next machine, and what is said of the tick.
 pub struct Stepped {
     pub machine: Machine,
     pub answer: Answer,
@@ -152,13 +157,15 @@ fn nothing(unfit: bool) -> Seen
 }
 
 // A Guest at place i: its clauses of "well formed", then what step 1 makes of it.
-fn see_guest(mut w: Seen, clock: u64, i: usize, c: u32, k: u32, e: u32, a: u64, u: u64) -> Seen
-    ensures { λ r. ⌜ r ≡ stageOrUnfit clock i c k e (Stage.Guest a u) w ⌝ }
+fn see_guest(mut w: Seen, clock: u64, i: usize, r: Row, a: u64, u: u64) -> Seen
+    ensures { λ q. ⌜ q ≡ stageOrUnfit clock i r (Stage.Guest a u) w ⌝ }
 {
     if clock < a {
         return nothing(true);
     }
     let old = age_of(clock, a);
+    let c = r.c;
+    let e = r.e;
     if (c as u64) < u {
         return nothing(true);
     }
@@ -177,13 +184,15 @@ fn see_guest(mut w: Seen, clock: u64, i: usize, c: u32, k: u32, e: u32, a: u64, 
 }
 
 // A Hyper at place i.
-fn see_hyper(mut w: Seen, clock: u64, i: usize, c: u32, k: u32, e: u32, a: u64, l: u64) -> Seen
+fn see_hyper(mut w: Seen, clock: u64, i: usize, r: Row, a: u64, l: u64) -> Seen
     requires { ⌜ w .count < 32 ⌝ }
-    ensures { λ r. ⌜ r ≡ stageOrUnfit clock i c k e (Stage.Hyper a l) w ⌝ }
+    ensures { λ q. ⌜ q ≡ stageOrUnfit clock i r (Stage.Hyper a l) w ⌝ }
 {
     if clock < a {
         return nothing(true);
     }
+    let k = r.k;
+    let e = r.e;
     if l < 1 {
         return nothing(true);
     }
@@ -201,14 +210,14 @@ fn see_hyper(mut w: Seen, clock: u64, i: usize, c: u32, k: u32, e: u32, a: u64, 
     w
 }
 
-fn see_stage(w: Seen, clock: u64, i: usize, c: u32, k: u32, e: u32, s: Stage) -> Seen
+fn see_stage(w: Seen, clock: u64, i: usize, r: Row, s: Stage) -> Seen
     requires { ⌜ w .count < 32 ⌝ }
-    ensures { λ r. ⌜ r ≡ stageOrUnfit clock i c k e s w ⌝ }
+    ensures { λ q. ⌜ q ≡ stageOrUnfit clock i r s w ⌝ }
 {
     match s {
         Stage::Never => w,
-        Stage::Guest(a, u) => see_guest(w, clock, i, c, k, e, a, u),
-        Stage::Hyper(a, l) => see_hyper(w, clock, i, c, k, e, a, l),
+        Stage::Guest(a, u) => see_guest(w, clock, i, r, a, u),
+        Stage::Hyper(a, l) => see_hyper(w, clock, i, r, a, l),
         Stage::Closed(a) => { if a <= clock { w } else { nothing(true) } }
     }
 }
@@ -219,7 +228,7 @@ fn see_row(w: Seen, clock: u64, i: usize, r: Row) -> Seen
 {
     let s = r.stage;
     if fields_fit(r) {
-        see_stage(w, clock, i, r.c, r.k, r.e, s)
+        see_stage(w, clock, i, r, s)
     } else {
         nothing(true)
     }
@@ -280,9 +289,8 @@ fn pick(b: bool, x: usize, y: usize) -> usize
     if b { x } else { y }
 }
 
-// The pass: the places past the last row and the rows, from the last to the first, then the tasks in the mask, from the
-// first on, up to one that comes too soon. It is one function since an array by value is copied at each call, and its
-// loops end at count, which is not a constant: a loop to 32 is unrolled, and the array taken apart.
+// The pass. It is one function since an array by value is copied at each call, and its loops end at count, which is not a
+// constant: a loop to 32 is unrolled, and the array taken apart.
 fn survey(clock: u64, count: usize, mask: u32, rows: [Row; 32]) -> Seen
     ensures { λ r. ⌜ r ≡ surveyOf clock count mask rows ⌝ }
 {
@@ -551,23 +559,19 @@ impl Machine {
                     i += 1;
                 }
                 self.clock += 1;
+                let mut taken = nobody(signal);
                 if place < 32 {
                     let r = self.rows[place];
                     let s = r.stage;
                     let o = run(place + 1, signal, early, r.c, s);
                     let next = o.stage;
-                    let taken = o.taken;
                     let q = staged(r, next);
                     self.rows[place] = q;
-                    Stepped {
-                        machine: self,
-                        answer: Answer::Taken(taken),
-                    }
-                } else {
-                    Stepped {
-                        machine: self,
-                        answer: Answer::Taken(nobody(signal)),
-                    }
+                    taken = o.taken;
+                }
+                Stepped {
+                    machine: self,
+                    answer: Answer::Taken(taken),
                 }
             }
         }

@@ -18,8 +18,8 @@ pub struct Started {
     pub answer: Answer,
 }
 
-// A place past the last row.
-fn no_row() -> Row
+// A place past the last row: all zero and Never.
+pub fn no_row() -> Row
     ensures { λ r. ⌜ r ≡ noRow ⌝ }
 {
     Row {

@@ -4,8 +4,22 @@
 pub mod analysis;
 pub mod answer;
 pub mod broken;
+pub mod broken_machine;
+pub mod broken_plan;
 pub mod dice;
+pub mod machine;
+pub mod machine_damages;
+pub mod machine_numbers;
+pub mod machine_state;
+pub mod machines;
+pub mod plan;
+pub mod plan_files;
+pub mod scripts;
 pub mod tables;
 
 #[cfg(test)]
 mod cases;
+#[cfg(test)]
+mod machine_cases;
+#[cfg(test)]
+mod plan_cases;

@@ -6,7 +6,6 @@ use Rattle.machine.specs.OnePass.{place, judgedOf}
 use Rattle.machine.specs.WellFormed.{wellFormed}
 use Rattle.machine.specs.declared.Machine.{Machine}
 use borrow.Author.Tests.{not-false}
-use native.Mathlib.Omega.{arith}
 use mathlib.Core.Bool.{true, false, not}
 use mathlib.Core.Path.{_≡_, _∙_, sym}
 use borrow.Author.Needs.{needs}

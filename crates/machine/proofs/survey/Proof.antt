@@ -3,7 +3,7 @@ use Rattle.machine.proofs.Mask.{end-within, walk-out, walk-soon, walk-o
 use Rattle.machine.proofs.Pass.{survey-good, survey-over, survey-bad}
 use Rattle.machine.proofs.Pass.{unfit-row, fit-row, back-row, back-blank, seen-end, seen-count, seen-fit}
 use Rattle.machine.specs.OnePass.{misplaced, seenFrom, nothingSeen, arrivalsFrom, surveyOf}
-use Rattle.machine.specs.WellFormed.{isBlank, rowFits}
+use Rattle.machine.specs.WellFormed.{isBlank}
 use Rattle.machine.specs.Rows.{noRow, none, firstFrom}
 use borrow.Author.Tests.{lt-ltb, le-ltb, not-true, not-false}
 use lib.ListN.{length, getD, take, drop}
@@ -12,7 +12,7 @@ use native.Mathlib.Omega.{arith}
 use Prim.Native.Nat.{_≤_, _-_}
 use mathlib.Core.Logic.{⊎-elim}
 use mathlib.Core.Bool.{true, false}
-use mathlib.Core.Path.{_≡_, refl, _∙_, sym, ap}
+use mathlib.Core.Path.{_≡_, _∙_, sym}
 use Rattle.machine.proofs.survey.Statement.{statement}
 use Rattle.machine.proofs.survey.Tie as tie
 use Rattle.machine.proofs.survey.Reads as reads

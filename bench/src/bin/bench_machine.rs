@@ -1,0 +1,196 @@
+//! Time of a tick: the library's machine beside a plain Rust one of the same layout, by value, on
+//! the same machines and ticks. Whether the step is inlined into the loop matters, so the Rust one
+//! is measured as the compiler decides, never inlined, and always inlined.
+
+use bench::machine::{Machine, Row, Stage};
+use bench::machine_numbers::*;
+use bench::rounds::{alternate, Times};
+use std::hint::black_box;
+use std::time::Duration;
+
+const TICKS: usize = 4_096;
+const ROUNDS: usize = 61;
+const SIZES: [usize; 4] = [1, 4, 16, 32];
+
+#[link(name = "export", kind = "static")]
+extern "C" {
+    fn tollsalmon_ticks(
+        state: *mut u64,
+        state_len: usize,
+        records: *const u8,
+        records_len: usize,
+        answers: *mut u8,
+        answers_len: usize,
+    ) -> u64;
+
+    fn tollsalmon_bench_ticks(
+        state: *mut u64,
+        state_len: usize,
+        mask: u32,
+        signal: u8,
+        early: u8,
+        times: u64,
+    ) -> u64;
+}
+
+fn library_repeat(state: &mut Numbers, (mask, signal, early): (u32, u8, bool), times: u64) -> u64 {
+    // SAFETY: the pointer is good for the length given with it.
+    unsafe { tollsalmon_bench_ticks(state.as_mut_ptr(), state.len(), mask, signal, early.into(), times) }
+}
+
+fn library_run(state: &mut Numbers, records: &[u8], answers: &mut [u8]) -> u64 {
+    let (a, b) = (records.len(), answers.len());
+    // SAFETY: all three pointers are good for the lengths given with them.
+    unsafe { tollsalmon_ticks(state.as_mut_ptr(), state.len(), records.as_ptr(), a, answers.as_mut_ptr(), b) }
+}
+
+/// How the Rust step is inlined, with its two calls.
+const RUST: [(&str, Repeat, Run); 3] = [
+    ("as decided", repeat_as_decided, run_as_decided),
+    ("never", repeat_called, run_called),
+    ("always", repeat_inlined, run_inlined),
+];
+
+/// Ticks to measure.
+enum Work {
+    /// The same tick, with this mask, again and again.
+    Same(u32),
+    /// These records.
+    Records(Vec<u8>),
+}
+
+struct Scenario {
+    name: &'static str,
+    state: Numbers,
+    work: Work,
+}
+
+fn main() {
+    println!(
+        "ns a tick (best of {ROUNDS} rounds of {TICKS} ticks), and library / Rust by best and by median"
+    );
+    println!("The Rust step is inlined into its loop as the compiler decides, never, or always.");
+    print_head();
+    for rows in SIZES {
+        for scenario in scenarios(rows) {
+            check(&scenario);
+            print!("{rows:>4}  {:<24}", scenario.name);
+            for (_, repeat, run) in RUST {
+                let (library, rust) = measure(&scenario, repeat, run);
+                print_pair(&library, &rust);
+            }
+            println!();
+        }
+    }
+}
+
+fn print_head() {
+    print!("{:<30}", "");
+    for (how, ..) in RUST {
+        print!(" |  Rust inlined: {how:<17}");
+    }
+    print!("\n{:<30}", "rows  ticks");
+    for _ in RUST {
+        print!(" | library    Rust   best  median");
+    }
+    println!();
+}
+
+fn print_pair(library: &Times, rust: &Times) {
+    let a_tick = |time: Duration| time.as_secs_f64() * 1e9 / TICKS as f64;
+    let ratio = |library: Duration, rust: Duration| library.as_secs_f64() / rust.as_secs_f64();
+    print!(
+        " | {:>7.1} {:>7.1} {:>6.2}  {:>6.2}",
+        a_tick(library.best()),
+        a_tick(rust.best()),
+        ratio(library.best(), rust.best()),
+        ratio(library.median(), rust.median()),
+    );
+}
+
+// What is measured.
+
+const LONG: u32 = 1_000_000;
+
+fn scenarios(rows: usize) -> Vec<Scenario> {
+    let all = (u64::MAX >> (64 - rows)) as u32;
+    let same =
+        |name, machine: Machine, mask| Scenario { name, state: numbers(&machine), work: Work::Same(mask) };
+    let clock = 1_000;
+    vec![
+        same("idle", machine(rows, clock, LONG - 1, Stage::Never), 0),
+        same("all guests ready", machine(rows, clock, LONG - 1, Stage::Guest { arrival: clock, used: 0 }), 0),
+        same(
+            "all hypertasks pending",
+            machine(rows, clock, 1, Stage::Hyper { arrival: 0, left: LONG.into() }),
+            0,
+        ),
+        arrival_and_enforcement(rows),
+        same("refused with 11", machine(rows, clock, 1, Stage::Closed { arrival: clock }), all),
+    ]
+}
+
+/// Rows so long that nothing ends within the ticks measured.
+fn machine(rows: usize, clock: u64, offset: u32, stage: Stage) -> Machine {
+    let row = Row { period: LONG, deadline: LONG, guest: LONG, hyper: LONG, offset, stage };
+    let mut machine = Machine { count: rows as u64, clock, ..Machine::NONE };
+    machine.rows[..rows].fill(row);
+    machine
+}
+
+/// The tasks arrive in turn, one a tick, each with a period of as many ticks as there are rows
+/// and enforced in the last of them: so each tick has an arrival, an enforcement and a hypertask
+/// that runs and ends. With a single row they come in every other tick.
+fn arrival_and_enforcement(rows: usize) -> Scenario {
+    let period = rows.max(2) as u32;
+    let row = Row { period, deadline: period, guest: 1, hyper: 1, offset: period - 1, stage: Stage::Never };
+    let mut machine = Machine { count: rows as u64, ..Machine::NONE };
+    machine.rows[..rows].fill(row);
+    let mut state = numbers(&machine);
+    let until_it_repeats = records(rows, period, 4 * period as usize);
+    run_as_decided(&mut state, &until_it_repeats, &mut vec![0; 12 * 4 * period as usize]);
+    let name = if rows == 1 { "arrival, enforcement" } else { "arrival and enforcement" };
+    Scenario { name, state, work: Work::Records(records(rows, period, TICKS)) }
+}
+
+fn records(rows: usize, period: u32, number: usize) -> Vec<u8> {
+    let mask =
+        |tick: usize| if tick % (period as usize) < rows { 1u32 << (tick % period as usize) } else { 0 };
+    (0..number).flat_map(|tick| u64::from(mask(tick)).to_le_bytes()).collect()
+}
+
+// How it is measured.
+
+/// Library and Rust must say the same, however the step is inlined, or their times mean nothing.
+fn check(scenario: &Scenario) {
+    let found = result(scenario, library_repeat, library_run);
+    for (how, repeat, run) in RUST {
+        assert!(found == result(scenario, repeat, run), "{}, {how}: different results", scenario.name);
+    }
+}
+
+fn result(scenario: &Scenario, repeat: Repeat, run: Run) -> (u64, Numbers, Vec<u8>) {
+    let (mut state, mut answers) = (scenario.state, vec![0; ANSWER * TICKS]);
+    let returned = once(scenario, &mut state, &mut answers, repeat, run);
+    (returned, state, answers)
+}
+
+fn once(scenario: &Scenario, state: &mut Numbers, answers: &mut [u8], repeat: Repeat, run: Run) -> u64 {
+    match &scenario.work {
+        Work::Same(mask) => repeat(state, black_box((*mask, 0, false)), TICKS as u64),
+        Work::Records(records) => run(state, black_box(records), answers),
+    }
+}
+
+/// Every round begins with the same machine.
+fn measure(scenario: &Scenario, rust_repeat: Repeat, rust_run: Run) -> (Times, Times) {
+    let work = |repeat: Repeat, run: Run| {
+        let mut answers = vec![0; ANSWER * TICKS];
+        move || {
+            let mut state = black_box(scenario.state);
+            black_box(once(scenario, &mut state, &mut answers, repeat, run));
+            black_box(&state);
+        }
+    };
+    alternate(ROUNDS, work(library_repeat, library_run), work(rust_repeat, rust_run))
+}

@@ -1,0 +1,17 @@
+pub mod WorkedRun
+pub mod Sums
+pub mod Source
+pub mod Hypertasks
+pub mod Guests
+pub mod Rows
+pub mod Ticks
+pub mod Accepted
+pub mod Deadlines
+pub mod TakenTicks
+pub mod RowJobs
+pub mod Runs
+pub mod Demand3
+pub mod Example
+pub mod WellFormed
+pub mod Counts
+pub mod Stages

@@ -1,0 +1,3 @@
+pub mod Runs
+pub mod Jobs
+pub mod Demand3

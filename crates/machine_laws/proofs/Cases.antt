@@ -1,0 +1,90 @@
+-- Document 01, "Cases": a machine on P3, arrival at 0. The definitions compute. Assumes nothing.
+use mathlib.Core.Path.{_≡_, refl}
+use mathlib.Core.Bool.{Bool, true, false}
+use mathlib.Core.List.{List, [], _∷_, _++_}
+use Prim.Native.Nat.{ℕ, _+_, _-_}
+use Rattle.refusals.specs.declared.Refusal.{Refusal}
+use Rattle.machine.specs.declared.Stage.{Stage}
+use Rattle.machine.specs.declared.Machine.{Machine}
+use Rattle.machine.specs.declared.Ran.{Ran}
+use Rattle.machine.specs.declared.Mark.{Mark}
+use Rattle.machine.specs.declared.Answer.{Answer}
+use Rattle.machine.specs.declared.Stepped.{Stepped}
+use Rattle.machine.specs.Rows.{age, firstFrom, mapFrom, every, howMany}
+use Rattle.machine.specs.WellFormed.{fieldsFit, stageFits, isBlank, wellFormed}
+use Rattle.machine.specs.TickRule.{verdict, chosen, turned, taken, stepOf}
+use Rattle.machine.specs.Fresh.{freshRows, freshAt}
+
+-- P3: 10 8 6 2, whose E is 6
+abbrev p3 : Machine
+p3 = freshAt (record { t = 10; d = 8; c = 6; k = 2; e = 6; stage = Stage.Never } ∷ []) 0
+
+-- ticks as mask and signal
+record Tick : Type 0 where
+  pub mask : ℕ
+  pub signal : ℕ
+
+abbrev arrival : Tick
+arrival = record { mask = 1; signal = 0 }
+
+abbrev silent : Tick
+silent = record { mask = 0; signal = 0 }
+
+abbrev signals : Tick
+signals = record { mask = 0; signal = 1 }
+
+-- the answers to a list of ticks from a machine
+abbrev answers : Machine → List Tick → List Answer
+answers m [] = []
+answers m (x ∷ xs) =
+    let s : Stepped = stepOf m (x .mask) (x .signal) false in
+    s .answer ∷ answers (s .machine) xs
+
+abbrev guest : Mark → Answer
+guest mark = Answer.Taken (record { ran = Ran.Guest 1; mark = mark; ignored = false })
+
+abbrev hypertask : Mark → Bool → Answer
+hypertask mark ignored = Answer.Taken (record { ran = Ran.Hypertask 1; mark = mark; ignored = ignored })
+
+abbrev nobody : Answer
+nobody = Answer.Taken (record { ran = Ran.Nobody; mark = Mark.Nothing; ignored = false })
+
+-- ticks 0 to 4: the arrival, and a silent guest
+abbrev five : List Tick
+five = arrival ∷ silent ∷ silent ∷ silent ∷ silent ∷ []
+
+abbrev fiveRan : List Answer
+fiveRan = guest Mark.Nothing ∷ guest Mark.Nothing ∷ guest Mark.Nothing ∷ guest Mark.Nothing ∷ guest Mark.Nothing ∷ []
+
+-- signal 1 in tick 5 gives the guest's output
+pub signal-in-tick-5 : answers p3 (five ++ signals ∷ []) ≡ fiveRan ++ guest Mark.Output ∷ []
+unfolding age firstFrom mapFrom every howMany fieldsFit stageFits isBlank wellFormed verdict chosen turned taken stepOf freshRows freshAt
+signal-in-tick-5 = refl
+
+-- silent till then, tick 6 runs the hypertask
+pub silent-till-6 : answers p3 (five ++ silent ∷ silent ∷ silent ∷ [])
+    ≡ fiveRan ++ guest Mark.BudgetUsedUp ∷ hypertask Mark.Nothing false ∷ hypertask Mark.Output false ∷ []
+unfolding age firstFrom mapFrom every howMany fieldsFit stageFits isBlank wellFormed verdict chosen turned taken stepOf freshRows freshAt
+silent-till-6 = refl
+
+-- and a signal 1 there is ignored
+pub signal-in-tick-6 : answers p3 (five ++ silent ∷ signals ∷ []) ≡ fiveRan ++ guest Mark.BudgetUsedUp ∷ hypertask Mark.Nothing true ∷ []
+unfolding age firstFrom mapFrom every howMany fieldsFit stageFits isBlank wellFormed verdict chosen turned taken stepOf freshRows freshAt
+signal-in-tick-6 = refl
+
+-- ticks 5 to 8, with the guest's output in tick 5
+abbrev till9 : List Tick
+till9 = five ++ signals ∷ silent ∷ silent ∷ silent ∷ []
+
+abbrev till9Ran : List Answer
+till9Ran = fiveRan ++ guest Mark.Output ∷ nobody ∷ nobody ∷ nobody ∷ []
+
+-- a second arrival at 9 is refused with 11
+pub second-arrival-at-9 : answers p3 (till9 ++ arrival ∷ []) ≡ till9Ran ++ Answer.Refused (Refusal.ArrivalTooSoon 1) ∷ []
+unfolding age firstFrom mapFrom every howMany fieldsFit stageFits isBlank wellFormed verdict chosen turned taken stepOf freshRows freshAt
+second-arrival-at-9 = refl
+
+-- at 10 it isn't
+pub second-arrival-at-10 : answers p3 (till9 ++ silent ∷ arrival ∷ []) ≡ till9Ran ++ nobody ∷ guest Mark.Nothing ∷ []
+unfolding age firstFrom mapFrom every howMany fieldsFit stageFits isBlank wellFormed verdict chosen turned taken stepOf freshRows freshAt
+second-arrival-at-10 = refl

@@ -1,0 +1,6 @@
+pub mod Counts
+pub mod Stages
+pub mod Kept
+pub mod Fresh
+pub mod Ticks
+pub mod Cases

@@ -1,0 +1,15 @@
+pub mod Digits
+pub mod Puts
+pub mod Tests
+pub mod Entries
+pub mod Values
+pub mod Records
+pub mod Written
+pub mod Sections
+pub mod Again
+pub mod ByKind
+pub mod Parts
+pub mod Plans
+pub mod RoundTrips
+pub mod Determined
+pub mod Cases

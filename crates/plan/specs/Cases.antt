@@ -1,0 +1,104 @@
+-- Worked cases of the plan file: document 01's plan of P2 with eight records, whole and damaged, and the writer's refusals.
+-- Assumes nothing.
+use mathlib.Core.Path.{_≡_}
+use mathlib.Core.List.{List, [], _∷_, _++_}
+use mathlib.Core.Option.{Option, none, some}
+use Prim.Native.Nat.{ℕ}
+use lib.ListN.{take, set, replicate}
+use Rattle.refusals.specs.declared.Refusal.{Refusal}
+use Rattle.refusals.specs.Refusals.{Line, line, lineOf}
+use Rattle.plan.specs.PlanFile.{readRefusal}
+use Rattle.plan.specs.Writer.{writeRefusal}
+
+-- a refusal by its number and its place
+abbrev pub told : Option Refusal → Option Line
+told (some r) = some (lineOf r)
+told none = none
+
+abbrev pub refused : ℕ → ℕ → Option Line
+refused n p = some (line n p)
+
+-- "the plan of P2 with eight records, the first with mask 1 and all else zero (108 bytes, bodies at 28 and 44)"
+abbrev pub table : List ℕ
+table = 10 ∷ 8 ∷ 3 ∷ 2 ∷ []
+
+abbrev pub script : List ℕ
+script = 1 ∷ replicate 63 0
+
+abbrev pub contentsOfP2 : List ℕ
+contentsOfP2 = 2 ∷ 0 ∷ 0 ∷ 0 ∷ 1 ∷ 0 ∷ 0 ∷ 0 ∷ 28 ∷ 0 ∷ 0 ∷ 0 ∷ 16 ∷ 0 ∷ 0 ∷ 0 ∷ 2 ∷ 0 ∷ 0 ∷ 0 ∷ 44 ∷ 0 ∷ 0 ∷ 0 ∷ 64 ∷ 0 ∷ 0 ∷ 0 ∷ []
+
+abbrev pub rowsOfP2 : List ℕ
+rowsOfP2 = 10 ∷ 0 ∷ 0 ∷ 0 ∷ 8 ∷ 0 ∷ 0 ∷ 0 ∷ 3 ∷ 0 ∷ 0 ∷ 0 ∷ 2 ∷ 0 ∷ 0 ∷ 0 ∷ []
+
+abbrev pub planOfP2 : List ℕ
+planOfP2 = contentsOfP2 ++ rowsOfP2 ++ script
+
+-- a file, and what the reader says of it
+pub record Read : Type 0 where
+  pub file : List ℕ
+  pub says : Option Line
+
+abbrev pub read : List ℕ → Option Line → Read
+read f l = record { file = f; says = l }
+
+abbrev pub reads : List Read
+reads =
+    read planOfP2 none
+    -- with no script: one entry, 32 bytes
+    ∷ read ((1 ∷ 0 ∷ 0 ∷ 0 ∷ 1 ∷ 0 ∷ 0 ∷ 0 ∷ 16 ∷ 0 ∷ 0 ∷ 0 ∷ 16 ∷ 0 ∷ 0 ∷ 0 ∷ []) ++ rowsOfP2) none
+    -- 13
+    ∷ read [] (refused 13 0)
+    ∷ read (take 3 planOfP2) (refused 13 3)
+    -- 14: counts 0 and 3, contents past the end, the second kind 3, the first kind 2
+    ∷ read (set planOfP2 0 0) (refused 14 0)
+    ∷ read (set planOfP2 0 3) (refused 14 0)
+    ∷ read (take 27 planOfP2) (refused 14 0)
+    ∷ read (set planOfP2 16 3) (refused 14 2)
+    ∷ read (set planOfP2 4 2) (refused 14 1)
+    -- 14 of the second entry comes before 15 of the first
+    ∷ read (set (set planOfP2 8 29) 16 3) (refused 14 2)
+    -- 15: a gap before the rows, a length of 2^32 − 1, a gap before the script, a byte after the last body
+    ∷ read (set planOfP2 8 29) (refused 15 1)
+    ∷ read (set (set (set (set planOfP2 12 255) 13 255) 14 255) 15 255) (refused 15 1)
+    ∷ read (set planOfP2 20 45) (refused 15 2)
+    ∷ read (planOfP2 ++ (0 ∷ [])) (refused 15 2)
+    -- 16: rows of 17 bytes, a present script of length 0
+    ∷ read (set (set (set planOfP2 12 17) 20 45) 24 63) (refused 16 1)
+    ∷ read (set (take 44 planOfP2) 24 0) (refused 16 2)
+    -- 17: the early mark 2 in record 3, a spare byte in record 7
+    ∷ read (set planOfP2 73 2) (refused 17 3)
+    ∷ read (set planOfP2 107 1) (refused 17 7)
+    ∷ []
+
+-- a table and a script, how many bytes are lent, and what the writer says
+pub record Write : Type 0 where
+  pub rows : List ℕ
+  pub ticks : List ℕ
+  pub room : ℕ
+  pub says : Option Line
+
+abbrev pub write : List ℕ → List ℕ → ℕ → Option Line → Write
+write t s n l = record { rows = t; ticks = s; room = n; says = l }
+
+abbrev pub writes : List Write
+writes =
+    write table script 108 none
+    ∷ write table [] 32 none
+    -- 1 before 16
+    ∷ write [] (take 7 script) 108 (refused 1 0)
+    ∷ write (1 ∷ table) script 108 (refused 1 5)
+    -- 16 before 17, place 2
+    ∷ write table (take 63 (set script 5 2)) 108 (refused 16 2)
+    -- 17 before 18
+    ∷ write table (set script 62 1) 0 (refused 17 7)
+    ∷ write table script 107 (refused 18 108)
+    ∷ []
+
+abbrev pub ReadsRight : List Read → Type 0
+ReadsRight [] = Unit {0}
+ReadsRight (c ∷ cs) = (told (readRefusal (c .file)) ≡ c .says) × ReadsRight cs
+
+abbrev pub WritesRight : List Write → Type 0
+WritesRight [] = Unit {0}
+WritesRight (c ∷ cs) = (told (writeRefusal (c .rows) (c .ticks) (c .room)) ≡ c .says) × WritesRight cs

@@ -1,0 +1,48 @@
+//! The library through its C interface.
+
+use crate::lent::Lent;
+use crate::outcome::Runs;
+use second::answer::{Answer, Refusal};
+
+#[link(name = "export", kind = "static")]
+extern "C" {
+    fn tollsalmon_start(
+        table: *const u32,
+        table_len: usize,
+        state: *mut u64,
+        state_len: usize,
+        place: *mut u64,
+    ) -> u32;
+
+    fn tollsalmon_ticks(
+        state: *mut u64,
+        state_len: usize,
+        records: *const u8,
+        records_len: usize,
+        answers: *mut u8,
+        answers_len: usize,
+    ) -> u64;
+}
+
+pub struct Library;
+
+impl Runs for Library {
+    fn start(&self, table: &[u32], state: &mut Lent<u64>) -> Answer {
+        let (state, length) = state.pointer_and_length();
+        // A place that the library leaves unwritten is no place of any answer.
+        let mut place = u64::MAX;
+        // SAFETY: both pointers are good for the lengths given with them, and `place` for one number.
+        let number = unsafe { tollsalmon_start(table.as_ptr(), table.len(), state, length, &mut place) };
+        match number {
+            0 => Ok(place),
+            number => Err(Refusal { number, place }),
+        }
+    }
+
+    fn ticks(&self, state: &mut Lent<u64>, records: &[u8], answers: &mut Lent<u8>) -> u64 {
+        let (state, length) = state.pointer_and_length();
+        let (answers, answers_length) = answers.pointer_and_length();
+        // SAFETY: all three pointers are good for the lengths given with them.
+        unsafe { tollsalmon_ticks(state, length, records.as_ptr(), records.len(), answers, answers_length) }
+    }
+}

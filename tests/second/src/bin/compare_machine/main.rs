@@ -1,0 +1,167 @@
+//! Compares the library's machine with the second program's, case by case: the answers of the
+//! start and of every tick, the whole machine after each call, and every place around them.
+//!
+//!     compare_machine [SEED]               the library
+//!     compare_machine --self-test [SEED]   machines with one fault each: every one must be noticed
+
+mod lent;
+mod library;
+mod outcome;
+mod tally;
+
+use lent::Lent;
+use library::Library;
+use outcome::{outcome, Called, Outcome};
+use second::broken_machine::{self, SECOND};
+use second::machine::RULES;
+use second::machine_damages::DAMAGES;
+use second::machine_numbers::ticks;
+use second::machines::{hand_on, Begin, Case};
+use std::process::ExitCode;
+use tally::Tally;
+
+const SEED: u64 = 1;
+
+fn main() -> ExitCode {
+    let words: Vec<String> = std::env::args().skip(1).collect();
+    let (self_test, seeds) = match words.split_first() {
+        Some((first, rest)) if first == "--self-test" => (true, rest),
+        _ => (false, &words[..]),
+    };
+    let Some(seed) = seed_of(seeds) else {
+        eprintln!("usage: compare_machine [--self-test] [SEED]");
+        return ExitCode::from(2);
+    };
+    let good = if self_test { notice_the_broken(seed) } else { compare_with_the_library(seed) };
+    if good {
+        ExitCode::SUCCESS
+    } else {
+        ExitCode::FAILURE
+    }
+}
+
+fn seed_of(words: &[String]) -> Option<u64> {
+    match words {
+        [] => Some(SEED),
+        [seed] => seed.parse().ok(),
+        _ => None,
+    }
+}
+
+fn compare_with_the_library(seed: u64) -> bool {
+    let mut tally = Tally::new();
+    let mut shown = false;
+    hand_on(seed, &mut |case| {
+        let expected = outcome(case, &SECOND);
+        let found = outcome(case, &Library);
+        let same = expected == found;
+        if !same && !shown {
+            show(case, &expected, &found);
+            shown = true;
+        }
+        tally.count(case, &expected, same);
+        true
+    });
+    println!("the library's machine beside the second program's, seed {seed}");
+    tally.print();
+    tally.is_good()
+}
+
+fn show(case: &Case, expected: &Outcome, found: &Outcome) {
+    println!("first difference: a machine of the kind {:?}", case.kind);
+    if let Some(damage) = case.damage {
+        println!("  damage: {}", DAMAGES[damage].name);
+    }
+    if let Begin::Table(table, length) = &case.begin {
+        println!("  started with {table:?}, {length} numbers lent");
+        println!("  second program: {:?}", expected.start);
+        println!("  library:        {:?}", found.start);
+    }
+    if found.table != expected.table {
+        println!("  the library changed the table to {:?}", found.table);
+    }
+    show_differences("the machine before the first call", &expected.begin, &found.begin);
+    let calls = expected.calls.iter().zip(&found.calls).enumerate();
+    if let Some((number, (expected, found))) = calls.into_iter().find(|(_, (mine, others))| mine != others) {
+        println!("  in call {number}");
+        show_call(case, number, expected, found);
+    }
+}
+
+fn show_call(case: &Case, number: usize, expected: &Called, found: &Called) {
+    println!("  returned: second program {}, library {}", expected.returned, found.returned);
+    if found.records != expected.records {
+        println!("  the library changed the records");
+    }
+    let answers = |called: &Called| called.answers.seen().chunks(12).map(<[u8]>::to_vec).collect::<Vec<_>>();
+    let (mine, others) = (answers(expected), answers(found));
+    if let Some(tick) = (0..mine.len()).find(|&tick| mine[tick] != others[tick]) {
+        println!("  answer {tick}: second program {:?}, library {:?}", mine[tick], others[tick]);
+        show_before(case, number, tick);
+        return;
+    }
+    show_differences("answers", &expected.answers, &found.answers);
+    show_differences("the machine", &expected.state, &found.state);
+}
+
+/// The machine that the tick came to, and the tick.
+fn show_before(case: &Case, number: usize, tick: usize) {
+    let begun = outcome(&Case { calls: vec![], begin: begin_of(case), ..*case }, &SECOND);
+    let mut state = begun.begin.seen().to_vec();
+    for call in &case.calls[..number] {
+        ticks(&RULES, &mut state, &call.records, &mut vec![0; call.answers]);
+    }
+    let records = &case.calls[number].records;
+    ticks(&RULES, &mut state, &records[..8 * tick], &mut vec![0; 12 * tick]);
+    println!("  its record: {:?}", &records[8 * tick..8 * tick + 8]);
+    println!("  before it: count {}, clock {}", state[0], state[1]);
+    for (i, place) in state[2..].chunks(8).enumerate().filter(|(_, place)| **place != [0; 8]) {
+        println!("    {}: T D C K E {:?}, stage {}, {:?}", i + 1, &place[..5], place[5], &place[6..]);
+    }
+}
+
+fn begin_of(case: &Case) -> Begin {
+    match &case.begin {
+        Begin::Table(table, length) => Begin::Table(table.clone(), *length),
+        Begin::Numbers(numbers) => Begin::Numbers(numbers.clone()),
+    }
+}
+
+fn show_differences<T: Copy + PartialEq + std::fmt::Display>(
+    what: &str,
+    expected: &Lent<T>,
+    found: &Lent<T>,
+) {
+    for (place, expected, found) in expected.differences(found) {
+        println!("  {what}, place {place}: second program {expected}, library {found}");
+    }
+}
+
+/// The same comparison with each broken machine in the library's place, until all are noticed.
+fn notice_the_broken(seed: u64) -> bool {
+    let all = broken_machine::MACHINE;
+    let mut unnoticed = all.to_vec();
+    let mut machines = 0;
+    let mut sound_is_same = true;
+    hand_on(seed, &mut |case| {
+        machines += 1;
+        let expected = outcome(case, &SECOND);
+        sound_is_same &= expected == outcome(case, &SECOND);
+        unnoticed.retain(|(name, program)| {
+            let same = expected == outcome(case, program);
+            if !same {
+                println!("noticed at machine {machines:>6} ({:?}): {name}", case.kind);
+            }
+            same
+        });
+        !unnoticed.is_empty()
+    });
+    for (name, _) in &unnoticed {
+        println!("FAILED: not noticed: {name}");
+    }
+    if !sound_is_same {
+        println!("FAILED: the machine without a fault is taken for a different one");
+    }
+    println!("{} of {} broken machines noticed", all.len() - unnoticed.len(), all.len());
+    unnoticed.is_empty() && sound_is_same
+}

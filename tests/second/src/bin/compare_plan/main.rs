@@ -1,0 +1,122 @@
+//! Compares the library with the second program in reading and writing plan files: answers,
+//! places, parts, written bytes, everything lent with its guards, and both round trips.
+//!
+//!     compare_plan [SEED]               the library
+//!     compare_plan --self-test [SEED]   programs with one fault each: every one must be noticed
+
+mod difference;
+mod lent;
+mod library;
+mod program;
+mod stray;
+mod tally;
+
+use difference::{compare, SECOND};
+use library::Library;
+use program::Program;
+use second::broken_plan;
+use second::plan_files::{hand_on, Case};
+use std::process::ExitCode;
+use stray::STRAY;
+use tally::Tally;
+
+const SEED: u64 = 1;
+
+fn main() -> ExitCode {
+    let words: Vec<String> = std::env::args().skip(1).collect();
+    let (self_test, seeds) = match words.split_first() {
+        Some((first, rest)) if first == "--self-test" => (true, rest),
+        _ => (false, &words[..]),
+    };
+    let Some(seed) = seed_of(seeds) else {
+        eprintln!("usage: compare_plan [--self-test] [SEED]");
+        return ExitCode::from(2);
+    };
+    let good = if self_test { notice_the_broken(seed) } else { compare_with_the_library(seed) };
+    if good {
+        ExitCode::SUCCESS
+    } else {
+        ExitCode::FAILURE
+    }
+}
+
+fn seed_of(words: &[String]) -> Option<u64> {
+    match words {
+        [] => Some(SEED),
+        [seed] => seed.parse().ok(),
+        _ => None,
+    }
+}
+
+fn compare_with_the_library(seed: u64) -> bool {
+    let mut tally = Tally::default();
+    hand_on(seed, &mut |case| {
+        match compare(&Library, case) {
+            Ok(answer) => tally.count(case, &answer),
+            Err(difference) => {
+                if tally.different == 0 {
+                    show(case, &difference);
+                }
+                tally.different += 1;
+            }
+        }
+        true
+    });
+    println!("the library beside the second program on plan files, seed {seed}");
+    tally.print();
+    tally.is_good()
+}
+
+fn show(case: &Case, difference: &str) {
+    println!("first difference: {difference}");
+    match case {
+        Case::Reading { kind, file } => {
+            println!("  a {kind:?} file of {} bytes, which begins with", file.len());
+            for line in file.chunks(16).take(8) {
+                println!("  {line:?}");
+            }
+        }
+        Case::Writing { table, script, output } => {
+            println!("  writing into {output} bytes a table of {} numbers", table.len());
+            println!("  and a script of {} bytes, which begins with", script.len());
+            for record in script.chunks(8).take(8) {
+                println!("  {record:?}");
+            }
+        }
+    }
+}
+
+/// The programs with one fault each: broken in what they reckon, or in where they write.
+fn broken_programs() -> Vec<(&'static str, &'static dyn Program)> {
+    let broken = broken_plan::PLAN.iter().map(|(name, program)| (*name, program as &dyn Program));
+    let stray = STRAY.iter().map(|(name, program)| (*name, program as &dyn Program));
+    broken.chain(stray).collect()
+}
+
+/// The same comparison with each broken program in the library's place, until all are noticed.
+fn notice_the_broken(seed: u64) -> bool {
+    let mut unnoticed = broken_programs();
+    let all = unnoticed.len();
+    let mut cases = 0;
+    let mut sound_is_same = true;
+    hand_on(seed, &mut |case| {
+        cases += 1;
+        sound_is_same &= compare(&SECOND, case).is_ok();
+        unnoticed.retain(|(name, program)| match compare(*program, case) {
+            Ok(_) => true,
+            Err(difference) => {
+                println!("noticed at case {cases:>6}: {name} ({difference})");
+                false
+            }
+        });
+        !unnoticed.is_empty()
+    });
+    for (name, _) in &unnoticed {
+        println!("FAILED: not noticed: {name}");
+    }
+    if !sound_is_same {
+        println!("FAILED: the program without a fault is taken for a different one");
+    }
+    println!("{} of {all} broken programs noticed", all - unnoticed.len());
+    unnoticed.is_empty() && sound_is_same
+}
