@@ -1,5 +1,5 @@
-//! Tells the linker where the library lies, and writes the broken programs: copies of
-//! src/analysis.rs with one edit each (edits.rs).
+//! Tells the linker where the library lies, and writes the broken programs: copies of the second
+//! program with one edit each (edits.rs, edits_machine.rs, edits_plan.rs).
 
 mod edits;
 mod edits_machine;

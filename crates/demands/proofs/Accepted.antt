@@ -1,32 +1,30 @@
 -- What a table that `start` accepts gives: what the theorems ask of each of its rows. Nothing is used of a solution but that the right side of its
--- equation is no more than it, and of equation 2 only that it counts w / T + 1 releases or more.
-use Prim.Native.Nat.{ℕ, zero, suc, _+_, _-_, _*_, _/_, _≤_, _<_, max}
-use mathlib.Core.Path.{_≡_, refl, sym, ap, _∙_}
-use mathlib.Core.Bool.{Bool, true, false, cond}
-use mathlib.Core.List.{List, [], _∷_}
-use native.Mathlib.Nat.{mul-le-mul-right, div-mul-le-self, add-zero}
+-- equation is no more than it, and of equation 2 only that it counts w / T + 1 releases or more. Assumes nothing.
+use Prim.Native.Nat.{ℕ, suc, _+_, _-_, _*_, _/_, _≤_, _<_}
+use mathlib.Core.Path.{_≡_, refl, ap}
+use mathlib.Core.Bool.{cond}
+use mathlib.Core.List.{List}
+use native.Mathlib.Nat.{mul-le-mul-right, div-mul-le-self}
 use native.Mathlib.Omega.{arith}
 use native.Mathlib.Decide.{decLe}
 use lib.Dec.{ltb}
-use lib.ListN.{length, getD, List·getD-eq-default}
+use lib.ListN.{getD, List·getD-eq-default}
 use borrow.Author.Tests.{lt-ltb, le-ltb}
 use Rattle.least.specs.Search.{Least}
-use Rattle.least.specs.Sums.{up, sum, largest}
+use Rattle.least.specs.Sums.{up, sum}
 use Rattle.least.proofs.Sums.{sum-mono, sum-suc, largest-upper}
 use Rattle.equations.specs.Table.{rows, T, D, C, K, Sound}
 use Rattle.equations.specs.Hypertask.{B, demand, activeSide, releases, startDemand, startSide, response, offsetFrom, E}
 use Rattle.equations.specs.Guest.{begunByHypertask, begunByGuest, bound, below, F, windowSide}
-use Rattle.equations.specs.Analysis.{tableCheck, resultsCheck, andThen, solved, analysis}
+use Rattle.equations.specs.Analysis.{analysis}
 use Rattle.equations.specs.Solutions.{Job, HypertaskResponse, GuestResponse, Schedulable}
-use Rattle.equations.specs.declared.Answer.{Answer}
-use Rattle.equations.specs.declared.Answer.the-variants.{Accepted, Refused}
+use Rattle.equations.specs.declared.Answer.the-variants.{Accepted}
 use Rattle.equations.specs.declared.Response.{Response}
 use Rattle.equations.specs.declared.Response.the-variants.{Is, Fails}
 use Rattle.equations.proofs.Bounds.{T≥1, K≥1}
 use Rattle.equations.proofs.Checks.{results-fit}
 use Rattle.equations.proofs.Exactly.{R, G, accepted-sound, offset-range}
 use Rattle.start.specs.Start.{rowOf, startAnswer}
-use Rattle.machine.specs.declared.Row.{Row}
 use Rattle.machine.specs.Rows.{noRow}
 use Rattle.demands.proofs.Sums.{up-count, up-one, sum-split}
 use Rattle.demands.proofs.Hypertasks.{Level}

@@ -1,11 +1,11 @@
 -- The counts of each task: jobs arrived are guest outputs, hypertask outputs and jobs still open; a job is open exactly while it has no output,
--- which its row's stage shows.
+-- which its row's stage shows. Assumes nothing.
 use Prim.Native.Nat.{ℕ, zero, suc, _+_, _≤_, _<_}
-use mathlib.Core.Path.{_≡_, refl, sym, ap, _∙_}
-use mathlib.Core.Bool.{Bool, true, false, cond, _&&_}
+use mathlib.Core.Path.{_≡_, refl, ap, _∙_}
+use mathlib.Core.Bool.{Bool, true, false, _&&_}
 use mathlib.Core.List.{List}
 use mathlib.Core.Logic.{_↔_}
-use native.Mathlib.Decide.{decLe, ℕ-discrete}
+use native.Mathlib.Decide.{ℕ-discrete}
 use native.Mathlib.Omega.{arith}
 use lib.Dec.{eqb}
 use lib.ListN.{length}
@@ -13,25 +13,20 @@ use borrow.Author.Tests.{eqb-true, eqb-false, eq-eqb, ne-eqb}
 use Rattle.least.specs.Sums.{sum}
 use Rattle.least.proofs.Sums.{sum-same}
 use Rattle.equations.specs.Table.{rows}
-use Rattle.equations.specs.Hypertask.{E}
-use Rattle.equations.specs.Solutions.{Schedulable}
 use Rattle.equations.specs.declared.Answer.the-variants.{Accepted}
-use Rattle.equations.proofs.Exactly.{R, G}
 use Rattle.machine.specs.declared.Stage.{Stage}
 use Rattle.machine.specs.declared.Row.{Row}
 use Rattle.machine.specs.Rows.{Found, at, none}
 use Rattle.machine.specs.Fresh.{freshAt}
 use Rattle.start.specs.Start.{rowOf, rowsOf, startAnswer, startOf}
 use Rattle.demands.specs.Runs.{Tick, TakenTick, Run, run}
-use Rattle.demands.specs.Jobs.{Job, brought, latest, isAt, bookedTo, guestGives, hypertaskGives, guestOutput, hypertaskOutput, one, numberOf}
+use Rattle.demands.specs.Jobs.{Job, brought, latest, isAt, bookedTo, guestGives, hypertaskGives, one, numberOf}
 use Rattle.demands.specs.Jobs.{guestOutputs, hypertaskOutputs, isOpen, jobsArrived, guestOutputsOf, hypertaskOutputsOf, jobsOpen}
 use Rattle.demands.proofs.Sums.{sum-zero, sum-none, sum-add, sum-swap}
-use Rattle.demands.proofs.Rows.{clash}
 use Rattle.demands.proofs.Ticks.{stageAt}
 use Rattle.demands.proofs.TakenTicks.{latest-is}
 use Rattle.demands.proofs.RowJobs.{arrivalOf, openArrival, same-eqb, is-at, shift, Booked}
 use Rattle.demands.proofs.Accepted.{schedulable}
-use Rattle.demands.proofs.Runs.{State}
 use Rattle.demands.proofs.Demand3.{started, run-from}
 
 -- one number among those below n
@@ -170,3 +165,19 @@ module _ (s : List ℕ) (m : ℕ) (accepted : startAnswer s ≡ Accepted m) wher
       ≡ guestOutputsOf (run (startOf s .machine) ticks .taken) i + hypertaskOutputsOf (run (startOf s .machine) ticks .taken) i
       + jobsOpen (run (startOf s .machine) ticks .taken) i
   counts ticks i h = rw (started s m accepted) (counts-from 0 ticks i h)
+
+  -- A job has no output exactly while its row's stage is Guest or Hyper with its arrival.
+  pub open-while : (ticks : List Tick) (i n : ℕ) → Job m (run (startOf s .machine) ticks .taken) i n →
+      (guestOutputs (run (startOf s .machine) ticks .taken) i n + hypertaskOutputs (run (startOf s .machine) ticks .taken) i n ≡ 0)
+      ↔ (openArrival (stageAt (run (startOf s .machine) ticks .machine .rows) i) ≡ at n)
+  open-while ticks i n j = (let z : 0 + n ≡ n = omega arith in rw z at (of-start i n j))
+    where
+      of-start : (i n : ℕ) → Job m (run (startOf s .machine) ticks .taken) i n →
+          (guestOutputs (run (startOf s .machine) ticks .taken) i n + hypertaskOutputs (run (startOf s .machine) ticks .taken) i n ≡ 0)
+          ↔ (openArrival (stageAt (run (startOf s .machine) ticks .machine .rows) i) ≡ at (0 + n))
+      of-start i n = rw (started s m accepted) (λ j. open-while-from 0 ticks i (j .row) n j)
+
+  -- The jobs still open of a task are told by its stage alone.
+  pub open-shown : (ticks : List Tick) (i : ℕ) → i < m →
+      jobsOpen (run (startOf s .machine) ticks .taken) i ≡ one (hasOpen (stageAt (run (startOf s .machine) ticks .machine .rows) i))
+  open-shown ticks i h = rw (started s m accepted) (open-shown-from 0 ticks i h)

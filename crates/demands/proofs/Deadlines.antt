@@ -1,9 +1,9 @@
 -- The deadlines: what holds at each instant of a run on a schedulable table, from any clock at which every task is Never, and is kept by every
--- tick that is taken.
-use Prim.Native.Nat.{ℕ, zero, suc, _+_, _*_, _≤_, _<_}
+-- tick that is taken. Assumes nothing.
+use Prim.Native.Nat.{ℕ, suc, _+_, _≤_, _<_}
 use mathlib.Core.Path.{_≡_, refl, sym, ap, _∙_}
 use mathlib.Core.Bool.{Bool, true, false, cond}
-use mathlib.Core.List.{List, [], _∷_}
+use mathlib.Core.List.{List}
 use mathlib.Core.Logic.{_⊎_, inl, inr}
 use native.Mathlib.Omega.{arith}
 use lib.Dec.{eqb}
@@ -16,14 +16,14 @@ use Rattle.machine.specs.declared.Stage.{Stage}
 use Rattle.machine.specs.declared.Row.{Row}
 use Rattle.machine.specs.declared.Machine.{Machine}
 use Rattle.machine.specs.Rows.{age, inMask, hasBegun}
-use Rattle.machine.specs.TickRule.{enforced, verdict, accepted, turned, chosen, ranOn, taken}
+use Rattle.machine.specs.TickRule.{verdict, accepted, turned, chosen, ranOn, taken}
 use Rattle.start.specs.Start.{rowOf}
 use Rattle.demands.proofs.Sums.{sum-none}
 use Rattle.demands.proofs.Hypertasks as H
 use Rattle.demands.proofs.Guests as G
 use Rattle.demands.proofs.Guests.{Phase, rest, held}
-use Rattle.demands.proofs.Rows.{leftOf, budgetOf, nextArrivalOf, nextHyperOf, Okay, Okay°, turnedStage, age-law, clash}
-use Rattle.demands.proofs.Ticks.{rowAt, stageAt, Shaped, Wf, Legal, legal, view, Ticked, ticks, turned-stage}
+use Rattle.demands.proofs.Rows.{leftOf, budgetOf, nextArrivalOf, nextHyperOf, Okay, turnedStage, age-law, clash}
+use Rattle.demands.proofs.Ticks.{rowAt, stageAt, Shaped, RowsFit, Legal, legal, view, Ticked, ticks, turned-stage}
 use Rattle.demands.proofs.Accepted.{level, glevel, fits, offset, deadline, offset-early}
 
 -- a row that is Hyper after steps 1 and 2 was so before, or is at its enforcement instant
@@ -59,7 +59,7 @@ module _ (s : List ℕ) (r g : ℕ → ℕ) (sch : Schedulable s r (E s) g) wher
   Q i h = sch .guests i h
 
   pub record All (c : ℕ) (l : List Row) : Type 0 where
-    pub wf : Wf (rowOf s) (rows s) c l
+    pub wf : RowsFit (rowOf s) (rows s) c l
     pub hypers : (i : ℕ) (h : i < rows s) → H.Invariant T C K i (B s i) (A i h .t) (r i) (λ q. A i h .w (suc q)) c (view (rowOf s) (rows s) c l)
     pub guests : (i : ℕ) (h : i < rows s) → G.GuestInvariant T C K O (rows s) i (Q i h .wa) (Q i h .we) c (view (rowOf s) (rows s) c l)
 

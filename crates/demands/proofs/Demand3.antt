@@ -1,33 +1,33 @@
 -- Demand 3. Start the machine fresh on a table that is accepted and take any list of ticks: once the deadline's number of ticks was taken since
--- a job's arrival, the job has exactly one output, given before its deadline, the guest's before its enforcement instant.
+-- a job's arrival, the job has exactly one output, given before its deadline, the guest's before its enforcement instant. Assumes nothing.
 use Prim.Native.Nat.{ℕ, zero, suc, _+_, _≤_, _<_}
 use mathlib.Core.Path.{_≡_, refl, sym, ap, subst, _∙_}
 use mathlib.Core.Bool.{Bool, true, false}
 use mathlib.Core.List.{List}
+use mathlib.Core.Logic.{_⊎_, inl, inr}
 use native.Mathlib.Decide.{decLe}
 use native.Mathlib.Omega.{arith}
 use lib.Dec.{eqb}
 use lib.ListN.{length}
 use borrow.Author.Tests.{eqb-true}
+use Rattle.least.specs.Sums.{sum}
 use Rattle.equations.specs.Table.{rows, D}
 use Rattle.equations.specs.Hypertask.{E}
 use Rattle.equations.specs.Solutions.{Schedulable}
-use Rattle.equations.specs.declared.Answer.{Answer}
 use Rattle.equations.specs.declared.Answer.the-variants.{Accepted}
 use Rattle.equations.proofs.Exactly.{R, G}
 use Rattle.machine.specs.declared.Stage.{Stage}
-use Rattle.machine.specs.declared.Machine.{Machine}
 use Rattle.machine.specs.Fresh.{freshAt}
 use Rattle.start.specs.Start.{rowOf, rowsOf, startAnswer, startOf}
 use Rattle.demands.specs.Runs.{Tick, TakenTick, Run, run}
-use Rattle.demands.specs.Jobs.{Job, brought, isAt, guestOutput, hypertaskOutput, one, guestOutputs, hypertaskOutputs}
+use Rattle.demands.specs.Jobs.{Job, brought, isAt, guestOutput, hypertaskOutput, one, numberOf, guestOutputs, hypertaskOutputs}
 use Rattle.demands.specs.Demand3.{Due, InTime, OneInTime}
 use Rattle.demands.proofs.Rows.{Okay, clash}
 use Rattle.demands.proofs.Ticks.{stageAt}
 use Rattle.demands.proofs.Accepted.{schedulable, offset-early, row-d, row-e}
 use Rattle.demands.proofs.Deadlines.{okay, hyper-before-deadline}
 use Rattle.demands.proofs.TakenTicks.{not-brought}
-use Rattle.demands.proofs.RowJobs.{openArrival, Booked}
+use Rattle.demands.proofs.RowJobs.{openArrival}
 use Rattle.demands.proofs.Runs.{State, state}
 
 -- ## At any state of a run
@@ -39,18 +39,18 @@ module _ (s : List ℕ) (r g : ℕ → ℕ) (sch : Schedulable s r (E s) g) (c�
     where
       go : (z : Stage) → stageAt (X .machine .rows) i ≡ z → isAt (c₀ + n) (openArrival z) ≡ false
       go Stage.Never e = refl
-      go (Stage.Guest a u) e = at (eqb a (c₀ + n)) refl
+      go (Stage.Guest a u) e = gone (eqb a (c₀ + n)) refl
         where
-          at : (t : Bool) → eqb a (c₀ + n) ≡ t → t ≡ false
-          at true q =
+          gone : (t : Bool) → eqb a (c₀ + n) ≡ t → t ≡ false
+          gone true q =
               let c : ℕ = X .machine .clock in
               let o : Okay (rowOf s i) c (Stage.Guest a u) = okay s r g sch c (X .machine .rows) (S .all) i h (Stage.Guest a u) e in
               absurd (omega (arith, eqb-true a (c₀ + n) q, o, offset-early s r g sch i h, row-d s i, S .clock))
-          at false q = refl
-      go (Stage.Hyper a l) e = at (eqb a (c₀ + n)) refl
+          gone false q = refl
+      go (Stage.Hyper a l) e = gone (eqb a (c₀ + n)) refl
         where
-          at : (t : Bool) → eqb a (c₀ + n) ≡ t → t ≡ false
-          at true q =
+          gone : (t : Bool) → eqb a (c₀ + n) ≡ t → t ≡ false
+          gone true q =
               absurd (omega (
                 arith,
                 eqb-true a (c₀ + n) q,
@@ -58,7 +58,7 @@ module _ (s : List ℕ) (r g : ℕ → ℕ) (sch : Schedulable s r (E s) g) (c�
                 row-d s i,
                 S .clock,
               ))
-          at false q = refl
+          gone false q = refl
       go (Stage.Closed a) e = refl
 
   pub times : (n : ℕ) → InTime s (X .taken) i n
@@ -133,16 +133,48 @@ pub demand3 : (s : List ℕ) (m : ℕ) → startAnswer s ≡ Accepted m → (tic
     OneInTime s (run (startOf s .machine) ticks .taken) i n
 demand3 s m accepted ticks i n = rw (started s m accepted) (demand3-from s m accepted 0 ticks i n)
 
+-- Before the deadline too: never more than one output, and each in time.
 pub never-more : (s : List ℕ) (m : ℕ) → startAnswer s ≡ Accepted m → (ticks : List Tick) (i n : ℕ) →
     Job m (run (startOf s .machine) ticks .taken) i n →
     (guestOutputs (run (startOf s .machine) ticks .taken) i n + hypertaskOutputs (run (startOf s .machine) ticks .taken) i n ≤ 1)
     × InTime s (run (startOf s .machine) ticks .taken) i n
 never-more s m accepted ticks i n = rw (started s m accepted) (in-time-from s m accepted 0 ticks i n)
 
+-- The clock reads how many ticks were taken.
 pub clock-counts : (s : List ℕ) (m : ℕ) → startAnswer s ≡ Accepted m → (ticks : List Tick) →
     run (startOf s .machine) ticks .machine .clock ≡ length (run (startOf s .machine) ticks .taken)
 clock-counts s m accepted ticks = rw (started s m accepted) (omega (arith, clock-from s m accepted 0 ticks))
 
+-- Each of the 32 bits of a taken tick's mask that is set brings a job of the table.
 pub every-arrival : (s : List ℕ) (m : ℕ) → startAnswer s ≡ Accepted m → (ticks : List Tick) (i n : ℕ) → i < 32 →
     brought (run (startOf s .machine) ticks .taken) i n ≡ true → Job m (run (startOf s .machine) ticks .taken) i n
 every-arrival s m accepted ticks i n = rw (started s m accepted) (job-from s m accepted 0 ticks i n)
+
+-- The same by the clock: once it reads the job's arrival plus its deadline.
+pub demand3-by-the-clock : (s : List ℕ) (m : ℕ) → startAnswer s ≡ Accepted m → (ticks : List Tick) (i n : ℕ) →
+    Job m (run (startOf s .machine) ticks .taken) i n → n + D s i ≤ run (startOf s .machine) ticks .machine .clock →
+    OneInTime s (run (startOf s .machine) ticks .taken) i n
+demand3-by-the-clock s m accepted ticks i n j h = demand3 s m accepted ticks i n j (omega (arith, clock-counts s m accepted ticks))
+
+-- where there is something to count, there is a tick
+some-tick : (p : ℕ → Bool) (n : ℕ) → 0 < numberOf p n → (x : ℕ) × (p x ≡ true)
+unfolding sum
+some-tick p zero h = absurd (omega arith)
+some-tick p (suc n) h = go (p n) refl h (some-tick p n)
+  where
+    go : (b : Bool) → p n ≡ b → 0 < numberOf p n + one b → (0 < numberOf p n → (x : ℕ) × (p x ≡ true)) → (x : ℕ) × (p x ≡ true)
+    go true q h ih = (n, q)
+    go false q h ih = ih (omega arith)
+
+-- so the one output has its tick: the guest's before arrival + E, or the hypertask's, before arrival + D
+pub output-tick : (s : List ℕ) (ticks : List TakenTick) (i n : ℕ) → OneInTime s ticks i n →
+    ((x : ℕ) × (guestOutput ticks i n x ≡ true) × (x < n + E s i)) ⊎ ((x : ℕ) × (hypertaskOutput ticks i n x ≡ true) × (x < n + D s i))
+unfolding guestOutputs hypertaskOutputs
+output-tick s ticks i n o =
+    elim (decLe 1 (guestOutputs ticks i n)) [
+      | yes h ↦ (let k = some-tick (guestOutput ticks i n) (length ticks) h in inl (k .0, k .1, o .in-time .guest-before-enforcement (k .0) (k .1)))
+      | no h ↦ (
+          let k = some-tick (hypertaskOutput ticks i n) (length ticks) (omega (arith, o .exactly-one)) in
+          inr (k .0, k .1, o .in-time .hypertask-before-deadline (k .0) (k .1))
+          )
+    ]

@@ -1,15 +1,13 @@
--- Guests get their ticks before their enforcement instant: for one row i, an invariant with ghost numbers.
+-- Guests get their ticks before their enforcement instant: for one row i, an invariant with ghost numbers. Assumes nothing.
 use Prim.Native.Nat.{ℕ, zero, suc, _+_, _*_, _-_, _≤_, _<_}
 use mathlib.Core.Path.{_≡_, refl}
 use mathlib.Core.Bool.{Bool, true, false}
-use mathlib.Core.Logic.{_⊎_, inl, inr}
-use native.Mathlib.Nat.{mul-le-mul-right}
 use native.Mathlib.Omega.{arith}
 use native.Mathlib.Decide.{decLe}
 use Rattle.least.specs.Sums.{up, sum}
 use Rattle.demands.proofs.Sums.{sums-le, sum-none, sum-at, sum-fall, sum-two}
 use Rattle.least.proofs.Sums.{sum-mono}
-use Rattle.demands.proofs.Source.{View, Source, nothing-new, new-job, Served, by-nobody, by-guest, by-hypertask, Step, bump, Bumped, bumped}
+use Rattle.demands.proofs.Source.{View, Served, by-nobody, by-guest, by-hypertask, Step, bump, Bumped, bumped}
 use Rattle.demands.proofs.Source.{asks}
 
 -- Where a row stands at an instant c: no job is open, or one is and becomes Hyper before the next arrives.
@@ -53,16 +51,16 @@ pub record GuestLevel (T C K E : ℕ → ℕ) (N i WA WE : ℕ) : Type 0 where
   pub passE : WE ≤ T i
 
 -- one job at most, and none
-one : (n T K x : ℕ) → (0 < K → n * T < x + T) → x ≤ T → n * K ≤ K
-one n T zero x h l = omega arith
-one zero T (suc k) x h l = omega arith
-one (suc zero) T (suc k) x h l = omega arith
-one (suc (suc n)) T (suc k) x h l = absurd (omega (arith, h (omega arith)))
+one-job : (n T K x : ℕ) → (0 < K → n * T < x + T) → x ≤ T → n * K ≤ K
+one-job n T zero x h l = omega arith
+one-job zero T (suc k) x h l = omega arith
+one-job (suc zero) T (suc k) x h l = omega arith
+one-job (suc (suc n)) T (suc k) x h l = absurd (omega (arith, h (omega arith)))
 
-none : (n T K x e : ℕ) → (0 < K → e + n * T < x + T) → x ≤ e → n * K ≤ 0
-none n T zero x e h l = omega arith
-none zero T (suc k) x e h l = omega arith
-none (suc n) T (suc k) x e h l = absurd (omega (arith, h (omega arith)))
+no-job : (n T K x e : ℕ) → (0 < K → e + n * T < x + T) → x ≤ e → n * K ≤ 0
+no-job n T zero x e h l = omega arith
+no-job zero T (suc k) x e h l = omega arith
+no-job (suc n) T (suc k) x e h l = absurd (omega (arith, h (omega arith)))
 
 -- what a row above, and row i itself, ask for in x ticks
 above :
@@ -77,9 +75,9 @@ mine :
     (m : Bool) (T C K E nK nC x WA WE : ℕ) → (0 < E) × (E ≤ T) × (0 < K → E < T) → x ≡ byPhase m WA WE → WA ≤ E → WE ≤ T →
     (0 < K → offK m E + nK * T < x + T) → offC m T E + nC * T < x + T → nK * K + nC * C ≤ byPhase m C (C + K)
 mine false T C K E nK nC x WA WE e q a b hK hC =
-    omega (arith, none nK T K x E hK (omega arith), one nC T C x (λ k. omega arith) (omega arith))
+    omega (arith, no-job nK T K x E hK (omega arith), one-job nC T C x (λ k. omega arith) (omega arith))
 mine true T C K E nK nC x WA WE e q a b hK hC =
-    omega (arith, one nK T K x (λ k. omega (arith, hK k)) (omega arith), one nC T C x (λ k. omega arith) (omega arith))
+    omega (arith, one-job nK T K x (λ k. omega (arith, hK k)) (omega arith), one-job nC T C x (λ k. omega arith) (omega arith))
 
 module _ (T C K E : ℕ → ℕ) (N i WA WE : ℕ) where
   pub record GuestInvariant (c : ℕ) (X : View) : Type 0 where
@@ -138,23 +136,29 @@ module _ (T C K E : ℕ → ℕ) (N i WA WE : ℕ) where
       fall-left : sum (X′ .left) N ≤ sum (S .left°) N
       fall-left = sum-mono (X′ .left) (S .left°) N (λ j l. S .left-falls j)
 
-      fall-want : sum (X′ .budget) (suc i) ≤ sum (S .budget°) (suc i)
-      fall-want = sum-mono (X′ .budget) (S .budget°) (suc i) (λ j l. S .budget-falls j)
+      fall-budget : sum (X′ .budget) (suc i) ≤ sum (S .budget°) (suc i)
+      fall-budget = sum-mono (X′ .budget) (S .budget°) (suc i) (λ j l. S .budget-falls j)
 
       spent :
           Served K (X .left) (S .left°) (X′ .left) (S .budget°) (X′ .budget) →
           0 < sum (X′ .left) N + sum (X′ .budget) (suc i) →
           sum (X′ .left) N + sum (X′ .budget) (suc i) < sum (S .left°) N + sum (S .budget°) (suc i)
-      spent (by-nobody z y) p = absurd (omega (arith, fall-left, fall-want, sum-none N (S .left°) (λ j h. z j), sum-none (suc i) (S .budget°) (λ j h. y j)))
+      spent (by-nobody z y) p = absurd (omega (arith, fall-left, fall-budget, sum-none N (S .left°) (λ j h. z j), sum-none (suc i) (S .budget°) (λ j h. y j)))
       spent (by-guest r z y f) p =
           elim (decLe r i) [
             | yes h ↦ omega (arith, fall-left, sum-fall (suc i) (X′ .budget) (S .budget°) r (omega arith) f (λ j l. S .budget-falls j))
-            | no h ↦ absurd (omega (arith, fall-left, fall-want, sum-none N (S .left°) (λ j h. z j), sum-none (suc i) (S .budget°) (λ j l. y j (omega arith))))
+            | no h ↦ absurd (omega (
+              arith,
+              fall-left,
+              fall-budget,
+              sum-none N (S .left°) (λ j h. z j),
+              sum-none (suc i) (S .budget°) (λ j l. y j (omega arith)),
+            ))
           ]
       spent (by-hypertask r fell only why) p =
           elim (decLe N r) [
             | yes h ↦ absurd (omega (arith, dom r h))
-            | no h ↦ omega (arith, fall-want, sum-fall N (X′ .left) (S .left°) r (omega arith) fell (λ j l. S .left-falls j))
+            | no h ↦ omega (arith, fall-budget, sum-fall N (X′ .left) (S .left°) r (omega arith) fell (λ j l. S .left-falls j))
           ]
 
       nK′ : ℕ → ℕ

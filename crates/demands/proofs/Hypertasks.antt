@@ -1,13 +1,13 @@
--- Hypertasks are over in time: for one row i, an invariant with ghost numbers, kept by every tick.
+-- Hypertasks are over in time: for one row i, an invariant with ghost numbers, kept by every tick. Assumes nothing.
 use Prim.Native.Nat.{ℕ, zero, suc, _+_, _*_, _≤_, _<_}
-use mathlib.Core.Path.{_≡_, refl}
-use mathlib.Core.Logic.{_⊎_, inl, inr}
+use mathlib.Core.Path.{_≡_}
+use mathlib.Core.Logic.{inl, inr}
 use native.Mathlib.Omega.{arith}
 use native.Mathlib.Decide.{decLe}
 use Rattle.least.specs.Sums.{up, sum}
 use Rattle.demands.proofs.Sums.{sums-le, sum-none, sum-at, sum-fall}
 use Rattle.least.proofs.Sums.{sum-mono}
-use Rattle.demands.proofs.Source.{View, Source, nothing-new, new-job, Served, by-nobody, by-guest, by-hypertask, Step, bump, Bumped, bumped}
+use Rattle.demands.proofs.Source.{View, nothing-new, new-job, Served, by-nobody, by-guest, by-hypertask, Step, bump, Bumped, bumped}
 use Rattle.demands.proofs.Source.{asks-all}
 
 -- What an accepted table says of row i: t bounds the active period, W q the start of its job q (from 0) in it.
@@ -153,7 +153,7 @@ module _ (T C K : ℕ → ℕ) (i B t R : ℕ) (W : ℕ → ℕ) where
             elim (decLe (K i) (X′ .left i)) [
               | yes h ↦
                   late (suc c) (I .t0) t (T i) (K i) R (X′ .nextHyper i) (X′ .left i) (n′ i) W p h cap′ own′ short′ (count′ i (omega arith))
-                  (row i (omega arith) .next) begun′ (L .response)
+                  (row i (omega arith) .next) begun′ (λ q b. omega (arith, L .response q b))
               | no h ↦ elim (S .hypertasks i) [
                 | nothing-new a b ↦ omega (arith, I .time (omega (arith, S .left-falls i)), fell-of (S .run) p (omega arith))
                 | new-job a b e ↦ omega (arith, L .response 0 (omega (arith, L .some)), fell-of (S .run) p (omega arith))

@@ -1,4 +1,4 @@
-pub mod WorkedRun
+pub mod Cases
 pub mod Sums
 pub mod Source
 pub mod Hypertasks

@@ -1,5 +1,5 @@
--- The jobs of one row through a tick: what its stage says of its latest arrival, and that each job is booked once, in time.
-use Prim.Native.Nat.{ℕ, zero, suc, _+_, _-_, _≤_, _<_}
+-- The jobs of one row through a tick: what its stage says of its latest arrival, and that each job is booked once, in time. Assumes nothing.
+use Prim.Native.Nat.{ℕ, suc, _+_, _-_, _≤_, _<_}
 use mathlib.Core.Path.{_≡_, refl, sym, ap, _∙_}
 use mathlib.Core.Bool.{Bool, true, false, cond, _&&_, _||_}
 use mathlib.Core.List.{List, [], _∷_, _++_}
@@ -8,19 +8,19 @@ use native.Mathlib.Decide.{decLe, ℕ-discrete}
 use native.Mathlib.Omega.{arith}
 use lib.Dec.{eqb}
 use lib.ListN.{length}
-use borrow.Author.Tests.{eqb-true, eqb-false, eq-eqb, ne-eqb}
+use borrow.Author.Tests.{eqb-true, eq-eqb, ne-eqb}
 use Rattle.least.specs.Sums.{sum}
 use Rattle.machine.specs.declared.Stage.{Stage}
 use Rattle.machine.specs.declared.Row.{Row}
 use Rattle.machine.specs.declared.Taken.{Taken}
 use Rattle.machine.specs.Rows.{age, inMask, Found, at, none}
-use Rattle.machine.specs.TickRule.{enforced, guestRan, hypertaskRan, ranFrom, nobodyRan}
-use Rattle.machine.proofs.Tests.{and-false, both}
-use Rattle.demands.specs.Runs.{Tick, TakenTick}
+use Rattle.machine.specs.TickRule.{ranFrom, nobodyRan}
+use Rattle.machine.proofs.Tests.{both}
+use Rattle.demands.specs.Runs.{TakenTick}
 use Rattle.demands.specs.Jobs.{brought, latest, isAt, bookedTo, guestGives, hypertaskGives, guestOutput, hypertaskOutput, one, guestOutputs}
 use Rattle.demands.specs.Jobs.{hypertaskOutputs}
 use Rattle.demands.proofs.Rows.{Fits, Okay, Okay°, Free, turnedStage, clash}
-use Rattle.demands.proofs.TakenTicks.{guestSaid, hypertaskSaid, not-brought, guest-gave, hypertask-gave, latest-is, more-length, brought-last}
+use Rattle.demands.proofs.TakenTicks.{guestSaid, hypertaskSaid, not-brought, guest-gave, hypertask-gave, more-length, brought-last}
 use Rattle.demands.proofs.TakenTicks.{brought-other, latest-now, latest-before, guest-last, hypertask-last, guest-other, hypertask-other}
 use Rattle.demands.proofs.TakenTicks.{guest-output-before, hypertask-output-before, guest-output-now, hypertask-output-now, guest-outputs-more}
 use Rattle.demands.proofs.TakenTicks.{hypertask-outputs-more}

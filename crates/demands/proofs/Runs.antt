@@ -1,12 +1,12 @@
 -- Every state of a run, from a fresh start at any clock: the clock counts the ticks taken, the deadlines hold, and each row's jobs are booked.
+-- Assumes nothing.
 use Prim.Native.Nat.{ℕ, zero, suc, _+_, _-_, _≤_, _<_, _^_}
 use mathlib.Core.Path.{_≡_, refl, sym, ap, subst, _∙_}
-use mathlib.Core.Bool.{Bool, true, false, cond}
+use mathlib.Core.Bool.{Bool, true, false}
 use mathlib.Core.List.{List, [], _∷_, _++_, append-nil}
-use mathlib.Core.Logic.{_≢_}
 use native.Mathlib.Decide.{decLe, ℕ-discrete}
 use native.Mathlib.Omega.{arith}
-use lib.ListN.{length, getD, set, replicate, length-append, length-replicate, List·getD-append, List·getD-eq-default, getD-replicate}
+use lib.ListN.{length, set, replicate, length-append, length-replicate, List·getD-append, getD-replicate}
 use lib.Seq.{getD-append-seam, getD-append-add, getD-set-same, getD-set-other}
 use Rattle.equations.specs.Table.{rows}
 use Rattle.equations.specs.Hypertask.{E}
@@ -22,11 +22,12 @@ use Rattle.machine.proofs.Searches.{map-at, map-length}
 use Rattle.machine.proofs.Choice.{chosen-runs}
 use Rattle.machine.proofs.Verdicts.{passed}
 use Rattle.least.specs.Lists.{listOf}
+use Rattle.least.proofs.Lists.{length-list}
 use Rattle.start.specs.Start.{rowOf, rowsOf}
-use Rattle.demands.specs.Runs.{Tick, TakenTick, Run, takenBy, after, onward, run}
+use Rattle.demands.specs.Runs.{Tick, Run, takenBy, after, onward, run}
 use Rattle.demands.specs.Jobs.{brought}
-use Rattle.demands.proofs.Rows.{Okay, Okay°, Free, clash}
-use Rattle.demands.proofs.Ticks.{rowAt, stageAt, out, Shaped, Wf, Legal, legal, turned-stage, ymid}
+use Rattle.demands.proofs.Rows.{clash}
+use Rattle.demands.proofs.Ticks.{rowAt, stageAt, out, Shaped, Legal, legal, turned-stage, ymid}
 use Rattle.demands.proofs.Accepted.{fits, row-past}
 use Rattle.demands.proofs.Deadlines.{All, start, next, hyper-runs-early}
 use Rattle.demands.proofs.TakenTicks.{not-brought, brought-last, brought-other}
@@ -35,9 +36,7 @@ use Rattle.demands.proofs.RowJobs.{Told, told-ran, told-other, told-nob
 -- ## A fresh machine
 
 pub rows-length : (s : List ℕ) (n : ℕ) → length (rowsOf s n) ≡ n
-unfolding listOf
-rows-length s zero = refl
-rows-length s (suc n) = omega (arith, length-append (rowsOf s n) (rowOf s n ∷ []), rows-length s n)
+rows-length s n = length-list (rowOf s) n
 
 rows-at : (s : List ℕ) (n j : ℕ) → j < n → rowAt (rowsOf s n) j ≡ rowOf s j
 unfolding listOf

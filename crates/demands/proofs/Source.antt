@@ -1,7 +1,7 @@
--- What both theorems share: one tick as it looks from afar, in plain numbers; and the count of jobs in a window.
+-- What both theorems share: one tick as it looks from afar, in plain numbers; and the count of jobs in a window. Assumes nothing.
 use Prim.Native.Nat.{ℕ, zero, suc, _+_, _*_, _≤_, _<_}
-use mathlib.Core.Path.{_≡_, refl}
-use mathlib.Core.Logic.{_⊎_, inl, inr}
+use mathlib.Core.Path.{_≡_}
+use mathlib.Core.Logic.{_⊎_}
 use native.Mathlib.Nat.{mul-le-mul-right}
 use native.Mathlib.Omega.{arith}
 use Rattle.least.specs.Sums.{up, sum}

@@ -1,5 +1,5 @@
--- What the stages of a run show beside demand 3, for orders 7 and 8: a guest with budget left is before its enforcement instant, and the age of a
--- Hyper is below its deadline, so that no arrival that keeps its period finds its task Hyper.
+-- What the stages of a run show beside demand 3: a guest with budget left is before its enforcement instant, and the age of a
+-- Hyper is below its deadline, so that no arrival that keeps its period finds its task Hyper. Assumes nothing.
 use Prim.Native.Nat.{ℕ, _+_, _≤_, _<_}
 use mathlib.Core.Path.{_≡_}
 use mathlib.Core.List.{List}

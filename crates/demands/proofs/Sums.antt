@@ -1,7 +1,7 @@
--- Laws of sums and of division rounded up.
+-- Laws of sums and of division rounded up. Assumes nothing.
 use Prim.Native.Nat.{ℕ, zero, suc, _+_, _*_, _-_, _/_, _≤_, _<_}
 use mathlib.Core.Path.{_≡_, refl}
-use native.Mathlib.Nat.{mul-le-mul-right, le-div-iff-mul-le, add-div-right}
+use native.Mathlib.Nat.{le-div-iff-mul-le, add-div-right}
 use native.Mathlib.Omega.{arith}
 use native.Mathlib.Decide.{decLe}
 use Rattle.least.specs.Sums.{up, sum}

@@ -1,22 +1,19 @@
--- One taken tick more: what becomes of the arrivals, the latest arrival, and the counts.
+-- One taken tick more: what becomes of the arrivals, the latest arrival, and the counts. Assumes nothing.
 use Prim.Native.Nat.{ℕ, zero, suc, _+_, _≤_, _<_}
 use mathlib.Core.Path.{_≡_, refl, sym, ap, _∙_}
 use mathlib.Core.Bool.{Bool, true, false, cond, _&&_}
 use mathlib.Core.List.{List, [], _∷_, _++_}
 use mathlib.Core.Logic.{_≢_}
-use native.Mathlib.Decide.{decLe, ℕ-discrete}
-use native.Mathlib.Nat.{zero-div}
+use native.Mathlib.Decide.{decLe}
 use native.Mathlib.Omega.{arith}
-use lib.Dec.{eqb}
-use lib.ListN.{length, getD, length-append, List·getD-append, List·getD-eq-default}
+use lib.ListN.{length, length-append, List·getD-append, List·getD-eq-default}
 use lib.Seq.{getD-append-seam}
-use borrow.Author.Tests.{eqb-true, eq-eqb, ne-eqb}
 use Rattle.least.specs.Sums.{sum}
 use Rattle.least.proofs.Sums.{sum-same}
 use Rattle.machine.specs.declared.Taken.{Taken}
-use Rattle.machine.specs.Rows.{inMask, Found, at, none}
+use Rattle.machine.specs.Rows.{inMask, Found, at}
 use Rattle.machine.proofs.Mask.{empty-mask}
-use Rattle.demands.specs.Runs.{Tick, TakenTick}
+use Rattle.demands.specs.Runs.{TakenTick}
 use Rattle.demands.specs.Jobs.{noTick, tickAt, brought, latest, isOutput, isGuestOf, isHypertaskOf, guestGives, hypertaskGives, isAt, bookedTo}
 use Rattle.demands.specs.Jobs.{guestOutput, hypertaskOutput, one, numberOf, guestOutputs, hypertaskOutputs, jobsArrived, guestOutputsOf}
 use Rattle.demands.specs.Jobs.{hypertaskOutputsOf}

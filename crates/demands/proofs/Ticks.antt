@@ -1,13 +1,13 @@
 -- A tick that is taken is a step as the theorems see it, and keeps the rows well formed. The rows of a machine are told by their fields, which no
--- tick changes, and their stages.
+-- tick changes, and their stages. Assumes nothing.
 use Prim.Native.Nat.{ℕ, zero, suc, _+_, _≤_, _<_}
 use mathlib.Core.Path.{_≡_, refl, sym, ap, _∙_}
-use mathlib.Core.Bool.{Bool, true, false, cond, _&&_}
+use mathlib.Core.Bool.{Bool, true, false, cond}
 use mathlib.Core.List.{List, [], _∷_}
 use mathlib.Core.Logic.{_⊎_, inl, inr, _≢_}
 use native.Mathlib.Omega.{arith}
 use native.Mathlib.Decide.{decLe, ℕ-discrete}
-use lib.Dec.{eqb, leb}
+use lib.Dec.{leb}
 use lib.ListN.{length, getD, set, length-set, List·getD-eq-default}
 use lib.Seq.{getD-set-same, getD-set-other}
 use borrow.Author.Tests.{le-leb}
@@ -22,7 +22,7 @@ use Rattle.machine.proofs.Tests.{first-fails}
 use Rattle.machine.proofs.Verdicts.{Passed, passed}
 use Rattle.demands.proofs.Source.{View, Source, nothing-new, new-job, Served, by-nobody, by-guest, by-hypertask, Step}
 use Rattle.demands.proofs.Guests.{Phase}
-use Rattle.demands.proofs.Rows.{leftOf, budgetOf, nextArrivalOf, nextHyperOf, Fits, Okay, Okay°, Free, free, turnedStage, Mid, mid, mid-none}
+use Rattle.demands.proofs.Rows.{leftOf, budgetOf, nextArrivalOf, nextHyperOf, Fits, Okay, Free, free, turnedStage, Mid, mid, mid-none}
 use Rattle.demands.proofs.Rows.{After, stays, ranStage, runs, hyper-falls, guest-falls, not-waiting, not-ready, begun-of, begun-is, clash}
 
 abbrev pub rowAt : List Row → ℕ → Row
@@ -72,7 +72,7 @@ look p pn (r ∷ rs) i = go (p r) refl (firstFrom (λ j r. p r) (suc i) rs) (loo
 
 module _ (row : ℕ → Row) (N : ℕ) where
   -- well formed rows at the start of tick c; cur: the only one that may have begun
-  pub record Wf (c : ℕ) (l : List Row) : Type 0 where
+  pub record RowsFit (c : ℕ) (l : List Row) : Type 0 where
     pub long : N ≤ length l
     pub full : length l ≡ 32
     pub shape : (j : ℕ) → Shaped (rowAt l j) (row j)
@@ -98,11 +98,11 @@ module _ (row : ℕ → Row) (N : ℕ) where
   pub record Ticked (c : ℕ) (l y : List Row) : Type 0 where
     pub step : Step (λ j. row j .t) (λ j. row j .c) (λ j. row j .k) c (view c l) (view (suc c) y)
     pub dom : (j : ℕ) → N ≤ j → step .left° j ≡ 0
-    pub wf : Wf (suc c) y
+    pub wf : RowsFit (suc c) y
     pub phases : (j : ℕ) → Phase (suc c) (row j .t) (row j .e) (view (suc c) y .nextHyper j) (view (suc c) y .nextArrival j)
 
   -- refusals 10, 11 and 12
-  pub legal : (m : Machine) (mask : ℕ) → m .count ≡ N → Wf (m .clock) (m .rows) → verdict m mask ≡ accepted → Legal (m .clock) mask (m .rows)
+  pub legal : (m : Machine) (mask : ℕ) → m .count ≡ N → RowsFit (m .clock) (m .rows) → verdict m mask ≡ accepted → Legal (m .clock) mask (m .rows)
   legal m mask n W v = record { named = named; spaced = spaced }
     where
       P : Passed m mask
@@ -128,7 +128,7 @@ widen d″ (nothing-new a b) h = nothing-new a (omega arith)
 widen d″ (new-job a b e) h = new-job a b (omega arith)
 
 module _ (row : ℕ → Row) (N : ℕ) (fits : (j : ℕ) → j < N → Fits (row j)) (c mask signal : ℕ) (early : Bool) (l : List Row)
-    (W : Wf row N c l) (G : Legal row N c mask l) where
+    (W : RowsFit row N c l) (G : Legal row N c mask l) where
   abbrev x : List Row
   x = turned c mask l
 

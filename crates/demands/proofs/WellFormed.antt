@@ -1,11 +1,11 @@
--- Every state of a run is well formed, so no tick of it meets refusal 8.
-use Prim.Native.Nat.{ℕ, zero, suc, _+_, _-_, _≤_, _<_, _^_}
+-- Every state of a run is well formed, so no tick of it meets refusal 8. Assumes nothing.
+use Prim.Native.Nat.{ℕ, suc, _+_, _-_, _≤_, _<_, _^_}
 use mathlib.Core.Path.{_≡_, refl, sym, ap, _∙_}
-use mathlib.Core.Bool.{Bool, true, false, not, cond, _&&_}
+use mathlib.Core.Bool.{Bool, true, false, not, cond}
 use mathlib.Core.List.{List, [], _∷_}
 use native.Mathlib.Decide.{decLe}
 use native.Mathlib.Omega.{arith}
-use lib.Dec.{leb, ltb, eqb}
+use lib.Dec.{leb, eqb}
 use lib.ListN.{length}
 use borrow.Author.Tests.{le-leb, lt-ltb, le-ltb}
 use Rattle.refusals.specs.declared.Refusal.{Refusal}
@@ -23,15 +23,15 @@ use Rattle.machine.specs.Rows.{noRow, withStage, age, Found, at, none, first, h
 use Rattle.machine.specs.WellFormed.{fieldsFit, stageFits, rowFits, begunRow, isBlank, wellFormed}
 use Rattle.machine.specs.TickRule.{pastLast, tooSoon, whileHyper, Verdict, refused, accepted, refuseAt, verdict, chosen, turned, ranOn, taken, stepBy}
 use Rattle.machine.specs.TickRule.{stepOf}
-use Rattle.machine.specs.OnePass.{misplaced, isNone}
+use Rattle.machine.specs.OnePass.{misplaced}
 use Rattle.machine.specs.Fresh.{freshAt}
-use Rattle.machine.proofs.Tests.{Fields, fields-fit}
+use Rattle.machine.proofs.Tests.{fields-fit}
 use Rattle.machine.proofs.Searches.{all-none}
 use Rattle.machine.proofs.Verdicts.{well-law}
 use Rattle.start.specs.Start.{rowOf, rowsOf, startAnswer, startOf}
 use Rattle.demands.specs.Runs.{Tick, Run, run}
-use Rattle.demands.proofs.Rows.{Okay, age-law, clash}
-use Rattle.demands.proofs.Ticks.{rowAt, stageAt, Wf}
+use Rattle.demands.proofs.Rows.{Okay, age-law}
+use Rattle.demands.proofs.Ticks.{rowAt, stageAt, RowsFit}
 use Rattle.demands.proofs.Accepted.{schedulable, row-past}
 use Rattle.demands.proofs.Runs.{State}
 use Rattle.demands.proofs.Demand3.{started, run-from}
@@ -90,7 +90,7 @@ module _ (s : List ℕ) (r g : ℕ → ℕ) (sch : Schedulable s r (E s) g) wher
   unfolding isBlank
   blank = refl
 
-  module _ (c : ℕ) (l : List Row) (W : Wf (rowOf s) (rows s) c l) where
+  module _ (c : ℕ) (l : List Row) (W : RowsFit (rowOf s) (rows s) c l) where
     each : (j : ℕ) → j < length l → misplaced c (rows s) j (rowAt l j) ≡ false
     each j k =
         elim (decLe (suc j) (rows s)) [

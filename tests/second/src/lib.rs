@@ -6,6 +6,7 @@ pub mod answer;
 pub mod broken;
 pub mod broken_machine;
 pub mod broken_plan;
+pub mod command;
 pub mod dice;
 pub mod machine;
 pub mod machine_damages;

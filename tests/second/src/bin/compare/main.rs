@@ -12,36 +12,13 @@ use lent::Lent;
 use second::analysis;
 use second::answer::Answer;
 use second::broken::{self, Analyse};
+use second::command::compare_main;
 use second::tables::{hand_on, Case};
 use std::process::ExitCode;
 use tally::Tally;
 
-const SEED: u64 = 1;
-
 fn main() -> ExitCode {
-    let words: Vec<String> = std::env::args().skip(1).collect();
-    let (self_test, seeds) = match words.split_first() {
-        Some((first, rest)) if first == "--self-test" => (true, rest),
-        _ => (false, &words[..]),
-    };
-    let Some(seed) = seed_of(seeds) else {
-        eprintln!("usage: compare [--self-test] [SEED]");
-        return ExitCode::from(2);
-    };
-    let good = if self_test { notice_the_broken(seed) } else { compare_with_the_library(seed) };
-    if good {
-        ExitCode::SUCCESS
-    } else {
-        ExitCode::FAILURE
-    }
-}
-
-fn seed_of(words: &[String]) -> Option<u64> {
-    match words {
-        [] => Some(SEED),
-        [seed] => seed.parse().ok(),
-        _ => None,
-    }
+    compare_main("compare", compare_with_the_library, notice_the_broken)
 }
 
 /// An answer with all that can be seen of it: the results and their guards, and the table.

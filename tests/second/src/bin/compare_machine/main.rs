@@ -13,6 +13,7 @@ use lent::Lent;
 use library::Library;
 use outcome::{outcome, Called, Outcome};
 use second::broken_machine::{self, SECOND};
+use second::command::compare_main;
 use second::machine::RULES;
 use second::machine_damages::DAMAGES;
 use second::machine_numbers::ticks;
@@ -20,32 +21,8 @@ use second::machines::{hand_on, Begin, Case};
 use std::process::ExitCode;
 use tally::Tally;
 
-const SEED: u64 = 1;
-
 fn main() -> ExitCode {
-    let words: Vec<String> = std::env::args().skip(1).collect();
-    let (self_test, seeds) = match words.split_first() {
-        Some((first, rest)) if first == "--self-test" => (true, rest),
-        _ => (false, &words[..]),
-    };
-    let Some(seed) = seed_of(seeds) else {
-        eprintln!("usage: compare_machine [--self-test] [SEED]");
-        return ExitCode::from(2);
-    };
-    let good = if self_test { notice_the_broken(seed) } else { compare_with_the_library(seed) };
-    if good {
-        ExitCode::SUCCESS
-    } else {
-        ExitCode::FAILURE
-    }
-}
-
-fn seed_of(words: &[String]) -> Option<u64> {
-    match words {
-        [] => Some(SEED),
-        [seed] => seed.parse().ok(),
-        _ => None,
-    }
+    compare_main("compare_machine", compare_with_the_library, notice_the_broken)
 }
 
 fn compare_with_the_library(seed: u64) -> bool {

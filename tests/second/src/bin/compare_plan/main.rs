@@ -15,37 +15,14 @@ use difference::{compare, SECOND};
 use library::Library;
 use program::Program;
 use second::broken_plan;
+use second::command::compare_main;
 use second::plan_files::{hand_on, Case};
 use std::process::ExitCode;
 use stray::STRAY;
 use tally::Tally;
 
-const SEED: u64 = 1;
-
 fn main() -> ExitCode {
-    let words: Vec<String> = std::env::args().skip(1).collect();
-    let (self_test, seeds) = match words.split_first() {
-        Some((first, rest)) if first == "--self-test" => (true, rest),
-        _ => (false, &words[..]),
-    };
-    let Some(seed) = seed_of(seeds) else {
-        eprintln!("usage: compare_plan [--self-test] [SEED]");
-        return ExitCode::from(2);
-    };
-    let good = if self_test { notice_the_broken(seed) } else { compare_with_the_library(seed) };
-    if good {
-        ExitCode::SUCCESS
-    } else {
-        ExitCode::FAILURE
-    }
-}
-
-fn seed_of(words: &[String]) -> Option<u64> {
-    match words {
-        [] => Some(SEED),
-        [seed] => seed.parse().ok(),
-        _ => None,
-    }
+    compare_main("compare_plan", compare_with_the_library, notice_the_broken)
 }
 
 fn compare_with_the_library(seed: u64) -> bool {
