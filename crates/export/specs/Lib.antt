@@ -1,1 +1,5 @@
+pub mod Files
 pub mod Numbers
+pub mod Start
+pub mod State
+pub mod Ticks

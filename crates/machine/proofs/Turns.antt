@@ -140,49 +140,41 @@ accepts m mask x w l ok e =
     rw (ok, runs, late, turns-cond (isNone (first (due (m .clock)) (m .rows))) (eqb mask 0) (m .count))
 
 -- the loop: the first i rows are turned, the rows from turns on are as they were
-pub record Turning (m : Machine) (mask turns : ℕ) (s : Machine) (i : ℕ) : Type 0 where
+pub record Turning (m : Machine) (mask turns : ℕ) (rows : List Row) (i : ℕ) : Type 0 where
   pub below : i ≤ turns
-  pub clock : s .clock ≡ m .clock
-  pub count : s .count ≡ m .count
-  pub long : length (s .rows) ≡ 32
-  pub rows : mapFrom (turnedRow (m .clock) mask) 0 (m .rows) ≡ take i (s .rows) ++ mapFrom (turnedRow (m .clock) mask) i (drop i (s .rows))
-  pub rest : drop turns (s .rows) ≡ drop turns (m .rows)
+  pub long : length rows ≡ 32
+  pub so-far : mapFrom (turnedRow (m .clock) mask) 0 (m .rows) ≡ take i rows ++ mapFrom (turnedRow (m .clock) mask) i (drop i rows)
+  pub rest : drop turns rows ≡ drop turns (m .rows)
 
-abbrev pub stored : Machine → ℕ → Row → Machine
-stored s i q = record { rows = set (s .rows) i q; count = s .count; clock = s .clock }
-
-module _ (m : Machine) (mask turns : ℕ) (s : Machine) (i : ℕ) (few : turns ≤ 32) (lt : i < turns) (t : Turning m mask turns s i) where
-  pub turn-stores : (q : Row) → q ≡ turnedRow (m .clock) mask i (getD (s .rows) i noRow) → Turning m mask turns (stored s i q) (i + 1)
+module _ (m : Machine) (mask turns : ℕ) (rows : List Row) (i : ℕ) (few : turns ≤ 32) (lt : i < turns) (t : Turning m mask turns rows i) where
+  pub turn-stores : (q : Row) → q ≡ turnedRow (m .clock) mask i (getD rows i noRow) → Turning m mask turns (set rows i q) (i + 1)
   turn-stores q e =
-      let in-rows : i < length (s .rows) = omega arith in
+      let in-rows : i < length rows = omega arith in
       record {
         below = omega arith;
-        clock = t .clock;
-        count = t .count;
         long = simp length-set (t .long);
-        rows = t .rows ∙ map-step (turnedRow (m .clock) mask) (s .rows) i q in-rows e;
-        rest = drop-set-lt turns (s .rows) i q lt ∙ t .rest;
+        so-far = t .so-far ∙ map-step (turnedRow (m .clock) mask) rows i q in-rows e;
+        rest = drop-set-lt turns rows i q lt ∙ t .rest;
       }
 
-  pub turn-keeps : turnedRow (m .clock) mask i (getD (s .rows) i noRow) ≡ getD (s .rows) i noRow → Turning m mask turns s (i + 1)
+  pub turn-keeps : turnedRow (m .clock) mask i (getD rows i noRow) ≡ getD rows i noRow → Turning m mask turns rows (i + 1)
   turn-keeps e =
-      let in-rows : i < length (s .rows) = omega arith in
+      let in-rows : i < length rows = omega arith in
       record {
         below = omega arith;
-        clock = t .clock;
-        count = t .count;
         long = t .long;
-        rows = t .rows ∙ map-skip (turnedRow (m .clock) mask) (s .rows) i in-rows e;
+        so-far = t .so-far ∙ map-skip (turnedRow (m .clock) mask) rows i in-rows e;
         rest = t .rest;
       }
 
 -- after the loop
-module _ (m : Machine) (mask turns runs : ℕ) (s : Machine) (i : ℕ) (a : Accepted m mask turns runs) (t : Turning m mask turns s i) (end : turns ≤ i) where
-  pub turned-rows : s .rows ≡ turned (m .clock) mask (m .rows)
+module _ (m : Machine) (mask turns runs : ℕ) (rows : List Row) (i : ℕ) (a : Accepted m mask turns runs)
+    (t : Turning m mask turns rows i) (end : turns ≤ i) where
+  pub turned-rows : rows ≡ turned (m .clock) mask (m .rows)
   turned-rows =
       let z : i ≡ turns = omega (arith, t .below) in
-      let r : mapFrom (turnedRow (m .clock) mask) turns (drop turns (s .rows)) ≡ drop turns (s .rows) = rw (t .rest, a .rest) in
-      let q : mapFrom (turnedRow (m .clock) mask) 0 (m .rows) ≡ s .rows = rw (t .rows, z, r) (take-append-drop turns (s .rows)) in
+      let r : mapFrom (turnedRow (m .clock) mask) turns (drop turns rows) ≡ drop turns rows = rw (t .rest, a .rest) in
+      let q : mapFrom (turnedRow (m .clock) mask) 0 (m .rows) ≡ rows = rw (t .so-far, z, r) (take-append-drop turns rows) in
       sym (turned-law (m .clock) mask (m .rows) ∙ q)
 
   long-turned : length (turned (m .clock) mask (m .rows)) ≡ 32
@@ -197,5 +189,5 @@ module _ (m : Machine) (mask turns runs : ℕ) (s : Machine) (i : ℕ) (a : Acce
   pub runs-none : 32 ≤ runs → chosen (turned (m .clock) mask (m .rows)) ≡ none
   runs-none h = place-none (chosen (turned (m .clock) mask (m .rows))) runs found-below (a .who) h
 
-  pub may-run : runs < 32 → (isHyper (getD (s .rows) runs noRow .stage) || hasBudget (getD (s .rows) runs noRow .c) (getD (s .rows) runs noRow .stage)) ≡ true
+  pub may-run : runs < 32 → (isHyper (getD rows runs noRow .stage) || hasBudget (getD rows runs noRow .c) (getD rows runs noRow .stage)) ≡ true
   may-run h = rw turned-rows (chosen-runs (turned (m .clock) mask (m .rows)) runs (runs-at h) .1)

@@ -388,9 +388,11 @@ fn judge(clock: u64, count: usize, mask: u32, rows: [Row; 32]) -> Judged
     Judged::Accepted(pick(w.due | (mask != 0), count, 0), choose(w))
 }
 
-fn is_due(clock: u64, e: u32, s: Stage) -> bool
-    ensures { λ r. ⌜ r ≡ isDue clock e s ⌝ }
+fn is_due(clock: u64, r: Row) -> bool
+    ensures { λ b. ⌜ b ≡ isDue clock (r .e) (r .stage) ⌝ }
 {
+    let e = r.e;
+    let s = r.stage;
     match s {
         Stage::Never => false,
         Stage::Guest(a, _) => age_of(clock, a) == e as u64,
@@ -518,16 +520,17 @@ fn run_guest(task: usize, signal: u8, c: u32, a: u64, u: u64) -> Outcome
 }
 
 // Step 4, for the task that was chosen.
-fn run(task: usize, signal: u8, early: bool, c: u32, s: Stage) -> Outcome
-    requires { ⌜ (isHyper s || hasBudget c s) ≡ true ⌝ }
-    ensures { λ r. ⌜ r ≡ ranFrom task signal early c s ⌝ }
+fn run(task: usize, signal: u8, early: bool, r: Row) -> Outcome
+    requires { ⌜ (isHyper (r .stage) || hasBudget (r .c) (r .stage)) ≡ true ⌝ }
+    ensures { λ o. ⌜ o ≡ ranFrom task signal early (r .c) (r .stage) ⌝ }
 {
+    let s = r.stage;
     match s {
         Stage::Never => Outcome {
             stage: s,
             taken: nobody(signal),
         },
-        Stage::Guest(a, u) => run_guest(task, signal, c, a, u),
+        Stage::Guest(a, u) => run_guest(task, signal, r.c, a, u),
         Stage::Hyper(a, l) => run_hypertask(task, signal, early, a, l),
         Stage::Closed(_) => Outcome {
             stage: s,
@@ -538,7 +541,7 @@ fn run(task: usize, signal: u8, early: bool, c: u32, s: Stage) -> Outcome
 
 impl Machine {
     // One tick: the next machine and the answer; a refused tick returns the machine it was given.
-    pub fn step(mut self, mask: u32, signal: u8, early: bool) -> Stepped
+    pub fn step(self, mask: u32, signal: u8, early: bool) -> Stepped
         ensures { λ r. ⌜ r ≡ stepOf self mask signal early ⌝ }
     {
         let rows = self.rows;
@@ -548,29 +551,29 @@ impl Machine {
                 answer: Answer::Refused(refusal),
             },
             Judged::Accepted(turns, place) => {
+                let mut next = self.rows;
                 let mut i: usize = 0;
                 while i < turns {
-                    let r = self.rows[i];
-                    let s = r.stage;
-                    if named(mask, i) | is_due(self.clock, r.e, s) {
-                        let q = turn(self.clock, mask, i, r);
-                        self.rows[i] = q;
+                    let r = next[i];
+                    if named(mask, i) | is_due(self.clock, r) {
+                        next[i] = turn(self.clock, mask, i, r);
                     }
                     i += 1;
                 }
-                self.clock += 1;
                 let mut taken = nobody(signal);
                 if place < 32 {
-                    let r = self.rows[place];
-                    let s = r.stage;
-                    let o = run(place + 1, signal, early, r.c, s);
-                    let next = o.stage;
-                    let q = staged(r, next);
-                    self.rows[place] = q;
+                    let r = next[place];
+                    let o = run(place + 1, signal, early, r);
+                    let s = o.stage;
+                    next[place] = staged(r, s);
                     taken = o.taken;
                 }
                 Stepped {
-                    machine: self,
+                    machine: Machine {
+                        rows: next,
+                        count: self.count,
+                        clock: self.clock + 1,
+                    },
                     answer: Answer::Taken(taken),
                 }
             }

@@ -9,12 +9,13 @@ use lib.Dec.{leb, ltb, eqb}
 use lib.ListN.{length, getD, set, length-set}
 use lib.Seq.{getD-set-same, getD-set-other}
 use borrow.Author.Tests.{ltb-false, eqb-true, eqb-false, le-leb, not-false}
+use Rattle.refusals.specs.declared.Refusal.{Refusal}
 use Rattle.machine.specs.declared.Stage.{Stage}
 use Rattle.machine.specs.declared.Row.{Row}
 use Rattle.machine.specs.declared.Machine.{Machine}
 use Rattle.machine.specs.Rows.{noRow, withStage, inMask, Found, at, none, first, orElse, howMany, isHyper, hasBegun, hasBudget}
 use Rattle.machine.specs.WellFormed.{fieldsFit, stageFits, rowFits, begunRow, isBlank, wellFormed}
-use Rattle.machine.specs.TickRule.{pastLast, whileHyper, Verdict, refused, accepted, verdict, enforced, begun, waiting, ready, chosen, ranFrom}
+use Rattle.machine.specs.TickRule.{pastLast, tooSoon, whileHyper, refuseAt, Verdict, refused, accepted, verdict, enforced, begun, waiting, ready, chosen, ranFrom}
 use Rattle.machine.specs.TickRule.{turned, ranOn, taken, stepBy, stepOf}
 use Rattle.machine.specs.OnePass.{misplaced, turnedRow}
 use Rattle.machine.proofs.Tests.{both, first-fails, fields-say, blank-never}
@@ -157,7 +158,9 @@ module _ (m : Machine) (mask : ℕ) (long : length (m .rows) ≡ 32) (ok : Passe
   next-one : howMany begunRow (turned (m .clock) mask (m .rows)) ≤ 1
   next-one =
       let same = count-map begunRow (turnedRow (m .clock) mask) (m .rows) 0
-      (λ k h. rw (zero-add k) (begun-same (m .clock) mask k (getD (m .rows) k noRow) (rw (zero-add k) at (none-at (whileHyper mask) (m .rows) 0 k (ok .free) h))))
+      (λ k h.
+      let free = rw (zero-add k) at (none-at (whileHyper mask) (m .rows) 0 k (ok .free) h) in
+      rw (zero-add k) (begun-same (m .clock) mask k (getD (m .rows) k noRow) free))
       in
       rw (turned-law (m .clock) mask (m .rows)) (omega (arith, formed m (ok .good) .one))
 
@@ -227,3 +230,20 @@ step-length m mask signal early = go (verdict m mask)
     go : (v : Verdict) → length (stepBy m mask signal early v .machine .rows) ≡ length (m .rows)
     go (refused x) = refl
     go accepted = ran (chosen (turned (m .clock) mask (m .rows)))
+
+-- so 8 is not met again: a well formed machine isn't refused with it
+pub formed-not-8 : (m : Machine) (mask p : ℕ) → wellFormed m ≡ true → verdict m mask ≡ refused (Refusal.NotWellFormed p) → ⊥
+unfolding verdict
+formed-not-8 m mask p h e =
+    go (eqb (m .clock) (2 ^ 40)) (first (pastLast mask (m .count)) (m .rows)) (first (tooSoon mask (m .clock)) (m .rows))
+    (first (whileHyper mask) (m .rows)) (rw h at e)
+  where
+    go : (x : Bool) (a b c : Found)
+        → cond x (refused (Refusal.ClockAtEnd 0))
+        (refuseAt Refusal.NoSuchTask a (refuseAt Refusal.ArrivalTooSoon b (refuseAt Refusal.ArrivalWhileHyper c accepted)))
+        ≡ refused (Refusal.NotWellFormed p) → ⊥
+    go true a b c q = let z : _≡_ {A = ℕ} 0 1 = cc in omega arith
+    go false (at i) b c q = let z : _≡_ {A = ℕ} 0 1 = cc in omega arith
+    go false none (at i) c q = let z : _≡_ {A = ℕ} 0 1 = cc in omega arith
+    go false none none (at i) q = let z : _≡_ {A = ℕ} 0 1 = cc in omega arith
+    go false none none none q = let z : _≡_ {A = ℕ} 0 1 = cc in omega arith

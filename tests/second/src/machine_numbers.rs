@@ -91,7 +91,7 @@ fn numbers_of(row: &Row) -> [u64; IN_A_PLACE] {
 /// The record's last two bytes are not looked at.
 fn tick_of(record: &[u8]) -> Tick {
     let mask = u32::from_le_bytes([record[0], record[1], record[2], record[3]]);
-    Tick { mask, signal: record[4], early: record[5] != 0 }
+    Tick { mask, signal: record[4], early: record[5] == 1 }
 }
 
 /// The clock before the tick, the refusal's place, who ran, the task or the refusal's number,

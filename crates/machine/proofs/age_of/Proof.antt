@@ -6,12 +6,10 @@ use Rattle.machine.proofs.age_of.Tie as tie
 use Rattle.machine.proofs.age_of.Reads as reads
 use Rattle.machine.proofs.age_of.Lts as lts
 
--- src/lib.rt:97:1
 returns : tie.Need-returns
 unfolding age
 returns c = refl
 
--- src/lib.rt:97:1
 returns-2 : tie.Need-returns-2
 unfolding age
 returns-2 c = omega arith

@@ -6,15 +6,12 @@ use Rattle.machine.proofs.fields_fit.Reads as reads
 use Rattle.machine.proofs.fields_fit.Lts as lts
 use Rattle.machine.proofs.within.Reads as within-reads
 
--- src/lib.rt:120:72
 within-requires : tie.Need-within-requires
 within-requires c κs = search needs
 
--- src/lib.rt:120:86
 within-requires-2 : tie.Need-within-requires-2
 within-requires-2 c κs = search needs
 
--- src/lib.rt:117:1
 returns : tie.Need-returns
 returns c = rw (c .within2 .ensures, c .before .within .ensures) (fields-law _)
 

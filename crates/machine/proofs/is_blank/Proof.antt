@@ -6,11 +6,9 @@ use Rattle.machine.proofs.is_blank.Reads as reads
 use Rattle.machine.proofs.is_blank.Lts as lts
 use Rattle.machine.proofs.is_never.Reads as is-never-reads
 
--- src/lib.rt:138:74
 is-never-requires : tie.Need-is-never-requires
 is-never-requires c κs = search needs
 
--- src/lib.rt:134:1
 returns : tie.Need-returns
 unfolding isBlank
 returns c = rw (c .is-never .ensures)

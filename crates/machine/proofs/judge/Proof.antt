@@ -18,11 +18,9 @@ use Rattle.machine.proofs.lowest_past.Reads as lowest-past-reads
 use Rattle.machine.proofs.pick.Reads as pick-reads
 use Rattle.machine.proofs.survey.Reads as survey-reads
 
--- src/lib.rt:349:9
 survey-requires : tie.Need-survey-requires
 survey-requires c κs = search needs
 
--- src/lib.rt:351:9
 returns : tie.Need-returns
 unfolding judgedOf
 returns c =
@@ -33,7 +31,6 @@ returns c =
     let h : not (wellFormed m) ≡ true = sym (unfit-law m (a .mask) l) ∙ (rw (p .survey .ensures) at (c .if1 .taken)) in
     rw (verdict-unfit m (a .mask) h)
 
--- src/lib.rt:354:9
 returns-2 : tie.Need-returns-2
 unfolding judgedOf
 returns-2 c =
@@ -44,7 +41,6 @@ returns-2 c =
     let h : not (wellFormed m) ≡ false = sym (unfit-law m (a .mask) l) ∙ (rw (p .survey .ensures) at (c .before .if1 .left)) in
     rw (verdict-end m (a .mask) h (c .if2 .taken))
 
--- src/lib.rt:356:9
 lowest-past-requires : tie.Need-lowest-past-requires
 lowest-past-requires c κs =
     let p = c .before .before .before .before in
@@ -54,11 +50,9 @@ lowest-past-requires c κs =
     let h : not (wellFormed m) ≡ false = sym (unfit-law m (a .mask) l) ∙ (rw (p .survey .ensures) at (c .before .if1 .left)) in
     formed m (not-false (wellFormed m) h) .most
 
--- src/lib.rt:358:52
 add-t15 : tie.Need-add-t15
 add-t15 c = search needs
 
--- src/lib.rt:358:9
 returns-3 : tie.Need-returns-3
 unfolding judgedOf
 returns-3 c =
@@ -71,11 +65,9 @@ returns-3 c =
     let x = c .before .lowest-past in
     rw (verdict-past m (a .mask) l h (q .if2 .left) (x .result) (x .ensures) (c .if3 .taken))
 
--- src/lib.rt:361:56
 add-t17 : tie.Need-add-t17
 add-t17 c = search needs
 
--- src/lib.rt:361:9
 returns-4 : tie.Need-returns-4
 unfolding judgedOf
 returns-4 c =
@@ -90,11 +82,9 @@ returns-4 c =
     let known = none-past m (a .mask) l h (q .if2 .left) (x .result) (x .ensures) (r .if3 .left) in
     rw (verdict-soon m (a .mask) l h (q .if2 .left) known (p .survey .result) (p .survey .ensures) (c .before .if4 .taken))
 
--- src/lib.rt:364:59
 add-t19 : tie.Need-add-t19
 add-t19 c = search needs
 
--- src/lib.rt:364:9
 returns-5 : tie.Need-returns-5
 unfolding judgedOf
 returns-5 c =
@@ -110,15 +100,12 @@ returns-5 c =
     let apart = c .before .before .before .if4 .left in
     rw (verdict-hyper m (a .mask) l h (q .if2 .left) known (p .survey .result) (p .survey .ensures) apart (c .before .if5 .taken))
 
--- src/lib.rt:366:22
 pick-requires : tie.Need-pick-requires
 pick-requires c κs = search needs
 
--- src/lib.rt:366:59
 choose-requires : tie.Need-choose-requires
 choose-requires c κs = search needs
 
--- src/lib.rt:346:1
 returns-6 : tie.Need-returns-6
 returns-6 c =
     let r = c .before .before .before .before .before .before .before in

@@ -4,11 +4,9 @@ use Rattle.machine.proofs.kept.Tie as tie
 use Rattle.machine.proofs.kept.Reads as reads
 use Rattle.machine.proofs.kept.Lts as lts
 
--- src/lib.rt:298:1
 returns : tie.Need-returns
 returns c = rw (lt-ltb _ _ (c .if1 .taken))
 
--- src/lib.rt:298:1
 returns-2 : tie.Need-returns-2
 returns-2 c = rw (le-ltb _ _ (c .if1 .left))
 

@@ -15,40 +15,32 @@ Inv-loop mask count i₀ i = (i ≤ 32) × (pastFrom mask count (32 - count) ≡
 abbrev μ-loop : tie.MeasureT-loop
 μ-loop mask count i₀ i = 32 - i
 
--- src/lib.rt:319:8
 shr-if1 : tie.Need-shr-if1 Inv-loop μ-loop
 shr-if1 c = omega arith
 
--- src/lib.rt:320:9
 returns : tie.Need-returns Inv-loop μ-loop
 returns c =
     let a = c .before .args in
     sym (past-nothing (a .mask) (a .count) (a .count) (32 - a .count) (c .if1 .taken) (omega arith))
 
--- src/lib.rt:323:5
 loop-holds : tie.Need-loop-holds Inv-loop μ-loop
 loop-holds c = (omega arith, refl)
 
--- src/lib.rt:324:12
 named-requires : tie.Need-named-requires Inv-loop μ-loop
 named-requires c κs = omega arith
 
--- src/lib.rt:325:13
 returns-2 : tie.Need-returns-2 Inv-loop μ-loop
 returns-2 c =
     let p = c .before .before .before in
     let e = sym (c .before .named .ensures) ∙ c .if2 .taken in
     sym (p .loop .inv .1 ∙ past-hit (p .before .before .args .mask) (p .loop .i) (32 - p .loop .i) (omega arith) e)
 
--- src/lib.rt:327:9
 add-i : tie.Need-add-i Inv-loop μ-loop
 add-i c = omega arith
 
--- src/lib.rt:323:5
 loop-less : tie.Need-loop-less Inv-loop μ-loop
 loop-less c = omega arith
 
--- src/lib.rt:323:5
 loop-again : tie.Need-loop-again Inv-loop μ-loop
 loop-again c =
     let p = c .before .before .before in
@@ -56,7 +48,6 @@ loop-again c =
     let z : 32 - p .loop .i - 1 ≡ 32 - (p .loop .i + 1) = omega arith in
     (omega arith, p .loop .inv .1 ∙ past-miss (p .before .before .args .mask) (p .loop .i) (32 - p .loop .i) (omega arith) e ∙ rw z)
 
--- src/lib.rt:315:1
 returns-3 : tie.Need-returns-3 Inv-loop μ-loop
 returns-3 c =
     let p = c .before in

@@ -8,53 +8,42 @@ use Rattle.machine.proofs.nobody.Reads as nobody-reads
 use Rattle.machine.proofs.run_guest.Reads as run-guest-reads
 use Rattle.machine.proofs.run_hypertask.Reads as run-hypertask-reads
 
--- src/lib.rt:472:52
 enum-told : tie.Need-enum-told
 enum-told c = search needs
 
--- src/lib.rt:472:52
 nobody-requires : tie.Need-nobody-requires
 nobody-requires c κs = search needs
 
--- src/lib.rt:473:22
 enum-known-s : tie.Need-enum-known-s
 enum-known-s c = search needs
 
--- src/lib.rt:473:31
 run-guest-requires : tie.Need-run-guest-requires
 run-guest-requires c κs =
     let g = c .before .s .given in
-    ltb-true (g .0 .1 .0) (c .before .before .before .args .c) (rw (g .1) at (c .before .before .before .pre))
+    let s = c .before .before .before in
+    ltb-true (g .0 .1 .0) (s .args .r .c) (rw (g .1) at (s .pre))
 
--- src/lib.rt:474:22
 enum-known-s-2 : tie.Need-enum-known-s-2
 enum-known-s-2 c = search needs
 
--- src/lib.rt:474:31
 run-hypertask-requires : tie.Need-run-hypertask-requires
 run-hypertask-requires c κs = search needs
 
--- src/lib.rt:475:56
 enum-told-2 : tie.Need-enum-told-2
 enum-told-2 c = search needs
 
--- src/lib.rt:475:56
 nobody-requires-2 : tie.Need-nobody-requires-2
 nobody-requires-2 c κs = search needs
 
--- src/lib.rt:467:1
 returns : tie.Need-returns
 returns c = rw (c .before .enum-told .given .1, c .nobody .ensures)
 
--- src/lib.rt:467:1
 returns-2 : tie.Need-returns-2
 returns-2 c = rw (c .before .before .s .given .1, c .run-guest .ensures)
 
--- src/lib.rt:467:1
 returns-3 : tie.Need-returns-3
 returns-3 c = rw (c .before .before .s2 .given .1, c .run-hypertask .ensures)
 
--- src/lib.rt:467:1
 returns-4 : tie.Need-returns-4
 returns-4 c = rw (c .before .enum-told2 .given .1, c .nobody2 .ensures)
 

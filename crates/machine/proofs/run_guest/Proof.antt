@@ -5,19 +5,15 @@ use Rattle.machine.proofs.run_guest.Tie as tie
 use Rattle.machine.proofs.run_guest.Reads as reads
 use Rattle.machine.proofs.run_guest.Lts as lts
 
--- src/lib.rt:455:16
 add-used : tie.Need-add-used
 add-used c = search needs
 
--- src/lib.rt:457:9
 returns : tie.Need-returns
 returns c = rw (eq-eqb _ _ (c .if1 .taken))
 
--- src/lib.rt:449:1
 returns-2 : tie.Need-returns-2
 returns-2 c = rw (ne-eqb _ _ (c .before .if1 .left), eq-eqb _ _ (c .if2 .taken))
 
--- src/lib.rt:449:1
 returns-3 : tie.Need-returns-3
 returns-3 c = rw (ne-eqb _ _ (c .before .if1 .left), ne-eqb _ _ (c .if2 .left))
 

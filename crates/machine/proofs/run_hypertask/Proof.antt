@@ -7,17 +7,14 @@ use Rattle.machine.proofs.run_hypertask.Tie as tie
 use Rattle.machine.proofs.run_hypertask.Reads as reads
 use Rattle.machine.proofs.run_hypertask.Lts as lts
 
--- src/lib.rt:445:42
 sub-t14 : tie.Need-sub-t14
 sub-t14 c =
     let s = c .before .args in
     omega (arith, leb-false (s .l) 1 (or-false-right (s .early) (leb (s .l) 1) (c .if1 .left)))
 
--- src/lib.rt:436:1
 returns : tie.Need-returns
 returns c = rw (← last-tick (c .before .args .l), c .if1 .taken)
 
--- src/lib.rt:436:1
 returns-2 : tie.Need-returns-2
 returns-2 c = rw (← last-tick (c .before .args .l), c .if1 .left)
 

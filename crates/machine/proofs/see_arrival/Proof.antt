@@ -7,23 +7,18 @@ use Rattle.machine.proofs.see_arrival.Lts as lts
 use Rattle.machine.proofs.is_hyper.Reads as is-hyper-reads
 use Rattle.machine.proofs.kept.Reads as kept-reads
 
--- src/lib.rt:250:5
 kept-requires : tie.Need-kept-requires
 kept-requires c κs = search needs
 
--- src/lib.rt:251:8
 is-hyper-requires : tie.Need-is-hyper-requires
 is-hyper-requires c κs = search needs
 
--- src/lib.rt:252:9
 kept-requires-2 : tie.Need-kept-requires-2
 kept-requires-2 c κs = search needs
 
--- src/lib.rt:247:1
 returns : tie.Need-returns
 returns c = rw (sym (c .before .before .is-hyper .ensures) ∙ c .before .if1 .taken, c .kept2 .ensures, c .before .before .before .kept .ensures)
 
--- src/lib.rt:247:1
 returns-2 : tie.Need-returns-2
 returns-2 c = rw (sym (c .before .is-hyper .ensures) ∙ c .if1 .left, c .before .before .kept .ensures)
 

@@ -9,52 +9,47 @@ use Rattle.machine.proofs.see_guest.Lts as lts
 use Rattle.machine.proofs.age_of.Reads as age-of-reads
 use Rattle.machine.proofs.nothing.Reads as nothing-reads
 
--- src/lib.rt:159:9
 nothing-requires : tie.Need-nothing-requires
 nothing-requires c κs = search needs
 
--- src/lib.rt:159:9
 returns : tie.Need-returns
 unfolding stageFits
 returns c = rw (c .nothing .ensures, lt-leb _ _ (c .before .if1 .taken))
 
--- src/lib.rt:161:9
 age-of-requires : tie.Need-age-of-requires
 age-of-requires c κs = search needs
 
--- src/lib.rt:164:9
 cast-if2 : tie.Need-cast-if2
 cast-if2 c = search needs
 
--- src/lib.rt:165:9
 nothing-requires-2 : tie.Need-nothing-requires-2
 nothing-requires-2 c κs = search needs
 
--- src/lib.rt:165:9
 returns-2 : tie.Need-returns-2
 unfolding stageFits
 returns-2 c = rw (c .nothing2 .ensures, le-leb _ _ (c .before .before .before .if1 .left), lt-leb _ _ (c .before .if2 .taken))
 
--- src/lib.rt:167:9
 cast-if3 : tie.Need-cast-if3
 cast-if3 c = search needs
 
--- src/lib.rt:168:9
 nothing-requires-3 : tie.Need-nothing-requires-3
 nothing-requires-3 c κs = search needs
 
--- src/lib.rt:168:9
 returns-3 : tie.Need-returns-3
 unfolding stageFits
 returns-3 c =
     let p = c .before .before in
-    rw (c .nothing3 .ensures, le-leb _ _ (p .before .before .if1 .left), le-leb _ _ (p .if2 .left), ← p .before .age-of .ensures, lt-leb _ _ (c .before .if3 .taken))
+    rw (
+      c .nothing3 .ensures,
+      le-leb _ _ (p .before .before .if1 .left),
+      le-leb _ _ (p .if2 .left),
+      ← p .before .age-of .ensures,
+      lt-leb _ _ (c .before .if3 .taken),
+    )
 
--- src/lib.rt:170:15
 cast-if4 : tie.Need-cast-if4
 cast-if4 c = search needs
 
--- src/lib.rt:173:9
 returns-4 : tie.Need-returns-4
 unfolding stageFits stageSeen
 returns-4 c =
@@ -67,11 +62,9 @@ returns-4 c =
       eq-eqb _ _ (c .if4 .taken),
     )
 
--- src/lib.rt:175:12
 cast-if5 : tie.Need-cast-if5
 cast-if5 c = search needs
 
--- src/lib.rt:155:1
 returns-5 : tie.Need-returns-5
 unfolding stageFits stageSeen
 returns-5 c =
@@ -85,7 +78,6 @@ returns-5 c =
       lt-ltb _ _ (c .if5 .taken),
     )
 
--- src/lib.rt:155:1
 returns-6 : tie.Need-returns-6
 unfolding stageFits stageSeen
 returns-6 c =

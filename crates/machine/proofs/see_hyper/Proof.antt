@@ -9,52 +9,41 @@ use Rattle.machine.proofs.see_hyper.Lts as lts
 use Rattle.machine.proofs.age_of.Reads as age-of-reads
 use Rattle.machine.proofs.nothing.Reads as nothing-reads
 
--- src/lib.rt:187:9
 nothing-requires : tie.Need-nothing-requires
 nothing-requires c κs = search needs
 
--- src/lib.rt:187:9
 returns : tie.Need-returns
 unfolding stageFits
 returns c = rw (c .nothing .ensures, lt-leb _ _ (c .before .if1 .taken))
 
--- src/lib.rt:192:9
 nothing-requires-2 : tie.Need-nothing-requires-2
 nothing-requires-2 c κs = search needs
 
--- src/lib.rt:192:9
 returns-2 : tie.Need-returns-2
 unfolding stageFits
 returns-2 c = rw (c .nothing2 .ensures, le-leb _ _ (c .before .before .if1 .left), lt-leb _ _ (c .before .if2 .taken))
 
--- src/lib.rt:194:9
 cast-if3 : tie.Need-cast-if3
 cast-if3 c = search needs
 
--- src/lib.rt:195:9
 nothing-requires-3 : tie.Need-nothing-requires-3
 nothing-requires-3 c κs = search needs
 
--- src/lib.rt:195:9
 returns-3 : tie.Need-returns-3
 unfolding stageFits
 returns-3 c =
     let p = c .before .before in
     rw (c .nothing3 .ensures, le-leb _ _ (p .before .if1 .left), le-leb _ _ (p .if2 .left), lt-leb _ _ (c .before .if3 .taken))
 
--- src/lib.rt:197:8
 age-of-requires : tie.Need-age-of-requires
 age-of-requires c κs = search needs
 
--- src/lib.rt:197:28
 cast-if4 : tie.Need-cast-if4
 cast-if4 c = search needs
 
--- src/lib.rt:198:9
 nothing-requires-4 : tie.Need-nothing-requires-4
 nothing-requires-4 c κs = search needs
 
--- src/lib.rt:198:9
 returns-4 : tie.Need-returns-4
 unfolding stageFits
 returns-4 c =
@@ -68,15 +57,12 @@ returns-4 c =
       le-ltb _ _ (c .before .if4 .taken),
     )
 
--- src/lib.rt:201:12
 cast-if5 : tie.Need-cast-if5
 cast-if5 c = search needs
 
--- src/lib.rt:202:9
 add-w : tie.Need-add-w
 add-w c = search needs
 
--- src/lib.rt:182:1
 returns-5 : tie.Need-returns-5
 unfolding stageFits stageSeen
 returns-5 c =
@@ -90,7 +76,6 @@ returns-5 c =
       lt-ltb _ _ (c .before .if5 .taken),
     )
 
--- src/lib.rt:182:1
 returns-6 : tie.Need-returns-6
 unfolding stageFits stageSeen
 returns-6 c =

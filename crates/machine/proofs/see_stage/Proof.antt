@@ -10,53 +10,41 @@ use Rattle.machine.proofs.see_guest.Reads as see-guest-reads
 use Rattle.machine.proofs.see_hyper.Reads as see-hyper-reads
 use Rattle.machine.proofs.nothing.Reads as nothing-reads
 
--- src/lib.rt:203:25
 enum-told : tie.Need-enum-told
 enum-told c = search needs
 
--- src/lib.rt:204:22
 enum-known-s : tie.Need-enum-known-s
 enum-known-s c = search needs
 
--- src/lib.rt:204:31
 see-guest-requires : tie.Need-see-guest-requires
 see-guest-requires c κs = search needs
 
--- src/lib.rt:205:22
 enum-known-s-2 : tie.Need-enum-known-s-2
 enum-known-s-2 c = search needs
 
--- src/lib.rt:205:31
 see-hyper-requires : tie.Need-see-hyper-requires
 see-hyper-requires c κs = search needs
 
--- src/lib.rt:206:23
 enum-known-s-3 : tie.Need-enum-known-s-3
 enum-known-s-3 c = search needs
 
--- src/lib.rt:210:17
 nothing-requires : tie.Need-nothing-requires
 nothing-requires c κs = search needs
 
--- src/lib.rt:198:1
 returns : tie.Need-returns
 unfolding stageFits stageSeen
 returns c = rw (c .enum-told .given .1)
 
--- src/lib.rt:198:1
 returns-2 : tie.Need-returns-2
 returns-2 c = rw (c .before .before .s .given .1) (c .see-guest .ensures)
 
--- src/lib.rt:198:1
 returns-3 : tie.Need-returns-3
 returns-3 c = rw (c .before .before .s2 .given .1) (c .see-hyper .ensures)
 
--- src/lib.rt:198:1
 returns-4 : tie.Need-returns-4
 unfolding stageFits stageSeen
 returns-4 c = rw (c .before .before .s3 .given .1, le-leb _ _ (c .if1 .taken))
 
--- src/lib.rt:198:1
 returns-5 : tie.Need-returns-5
 unfolding stageFits stageSeen
 returns-5 c = rw (c .before .before .before .s3 .given .1, lt-leb _ _ (c .before .if1 .left)) (c .nothing .ensures)

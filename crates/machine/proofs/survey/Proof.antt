@@ -49,45 +49,36 @@ Inv-loop3 clock count mask rows i₀ w₀ end i w =
 abbrev μ-loop3 : tie.MeasureT-loop3
 μ-loop3 clock count mask rows i₀ w₀ end i w = count - i
 
--- src/lib.rt:280:9
 nothing-requires : tie.Need-nothing-requires Inv-loop μ-loop Inv-loop2 μ-loop2 Inv-loop3 μ-loop3
 nothing-requires c κs = search needs
 
--- src/lib.rt:280:9
 returns : tie.Need-returns Inv-loop μ-loop Inv-loop2 μ-loop2 Inv-loop3 μ-loop3
 returns c =
     let a = c .before .before .args in
     c .nothing .ensures ∙ survey-over (a .clock) (a .count) (a .mask) (a .t4) (c .before .if1 .taken)
 
--- src/lib.rt:283:5
 loop-holds : tie.Need-loop-holds Inv-loop μ-loop Inv-loop2 μ-loop2 Inv-loop3 μ-loop3
 loop-holds c =
     let a = c .before .args in
     let t = seen-end (a .clock) (a .count) (a .t4) 32 (omega arith) in
     (omega arith, omega arith, t .0, t .1)
 
--- src/lib.rt:284:9
 sub-i : tie.Need-sub-i Inv-loop μ-loop Inv-loop2 μ-loop2 Inv-loop3 μ-loop3
 sub-i c = omega arith
 
--- src/lib.rt:285:17
 mul-r : tie.Need-mul-r Inv-loop μ-loop Inv-loop2 μ-loop2 Inv-loop3 μ-loop3
 mul-r c = omega arith
 
--- src/lib.rt:285:17
 array-copy-out-r : tie.Need-array-copy-out-r Inv-loop μ-loop Inv-loop2 μ-loop2 Inv-loop3 μ-loop3
 array-copy-out-r c = omega arith
 
--- src/lib.rt:286:13
 is-blank-requires : tie.Need-is-blank-requires Inv-loop μ-loop Inv-loop2 μ-loop2 Inv-loop3 μ-loop3
 is-blank-requires c κs = search needs
 
--- src/lib.rt:287:13
 nothing-requires-2 :
     tie.Need-nothing-requires-2 Inv-loop μ-loop Inv-loop2 μ-loop2 Inv-loop3 μ-loop3
 nothing-requires-2 c κs = search needs
 
--- src/lib.rt:287:13
 returns-2 : tie.Need-returns-2 Inv-loop μ-loop Inv-loop2 μ-loop2 Inv-loop3 μ-loop3
 returns-2 c =
     let p = c .before .before .before .before .before in
@@ -97,11 +88,9 @@ returns-2 c =
     c .nothing2 .ensures
     ∙ survey-bad (a .clock) (a .count) (a .mask) (a .t4) (i - 1) (omega arith) (omega arith) (rw (le-ltb (i - 1) (a .count) (omega arith), off))
 
--- src/lib.rt:283:5
 loop-less : tie.Need-loop-less Inv-loop μ-loop Inv-loop2 μ-loop2 Inv-loop3 μ-loop3
 loop-less c = omega arith
 
--- src/lib.rt:283:5
 loop-again : tie.Need-loop-again Inv-loop μ-loop Inv-loop2 μ-loop2 Inv-loop3 μ-loop3
 loop-again c =
     let p = c .before .before .before .before in
@@ -111,31 +100,25 @@ loop-again c =
     let t = back-blank (a .clock) (a .count) (a .t4) i (omega arith) (omega arith) ok (p .loop .inv .2) (p .loop .inv .3) in
     (omega arith, omega arith, t .0, t .1)
 
--- src/lib.rt:290:9
 nothing-requires-3 :
     tie.Need-nothing-requires-3 Inv-loop μ-loop Inv-loop2 μ-loop2 Inv-loop3 μ-loop3
 nothing-requires-3 c κs = search needs
 
--- src/lib.rt:291:5
 loop2-holds : tie.Need-loop2-holds Inv-loop μ-loop Inv-loop2 μ-loop2 Inv-loop3 μ-loop3
 loop2-holds c =
     let p = c .before .before in
     (omega arith, p .loop .inv .2, c .nothing3 .ensures ∙ sym (p .loop .inv .3), omega arith, omega arith)
 
--- src/lib.rt:292:9
 sub-i-2 : tie.Need-sub-i-2 Inv-loop μ-loop Inv-loop2 μ-loop2 Inv-loop3 μ-loop3
 sub-i-2 c = omega arith
 
--- src/lib.rt:293:17
 mul-r-2 : tie.Need-mul-r-2 Inv-loop μ-loop Inv-loop2 μ-loop2 Inv-loop3 μ-loop3
 mul-r-2 c = omega arith
 
--- src/lib.rt:293:17
 array-copy-out-r-2 :
     tie.Need-array-copy-out-r-2 Inv-loop μ-loop Inv-loop2 μ-loop2 Inv-loop3 μ-loop3
 array-copy-out-r-2 c = omega arith
 
--- src/lib.rt:294:9
 see-row-requires : tie.Need-see-row-requires Inv-loop μ-loop Inv-loop2 μ-loop2 Inv-loop3 μ-loop3
 see-row-requires c κs =
     let p = c .before .before in
@@ -143,7 +126,6 @@ see-row-requires c κs =
     let k : p .loop2 .w .count ≤ length (a .t4) - p .loop2 .i = rw (p .loop2 .inv .2) (seen-count (a .clock) (a .count) (a .t4) (p .loop2 .i)) in
     omega arith
 
--- src/lib.rt:296:13
 returns-3 : tie.Need-returns-3 Inv-loop μ-loop Inv-loop2 μ-loop2 Inv-loop3 μ-loop3
 returns-3 c =
     let p = c .before .before .before .before in
@@ -156,11 +138,9 @@ returns-3 c =
     c .before .see-row .ensures ∙ t .1
     ∙ survey-bad (a .clock) (a .count) (a .mask) (a .t4) (i - 1) (omega arith) (omega arith) (rw (lt-ltb (i - 1) (a .count) (omega arith), t .0))
 
--- src/lib.rt:291:5
 loop2-less : tie.Need-loop2-less Inv-loop μ-loop Inv-loop2 μ-loop2 Inv-loop3 μ-loop3
 loop2-less c = omega arith
 
--- src/lib.rt:291:5
 loop2-again : tie.Need-loop2-again Inv-loop μ-loop Inv-loop2 μ-loop2 Inv-loop3 μ-loop3
 loop2-again c =
     let p = c .before .before .before .before in
@@ -171,11 +151,9 @@ loop2-again c =
     let t = back-row (a .clock) (a .count) (a .t4) i (omega arith) (omega arith) (omega arith) (f .0) (p .loop2 .inv .1) in
     (omega arith, t .0, c .before .see-row .ensures ∙ f .1 ∙ rw (p .loop2 .inv .2) (sym (t .1)), p .loop2 .inv .3, p .loop2 .inv .4)
 
--- src/lib.rt:299:9
 pick-requires : tie.Need-pick-requires Inv-loop μ-loop Inv-loop2 μ-loop2 Inv-loop3 μ-loop3
 pick-requires c κs = search needs
 
--- src/lib.rt:300:5
 loop3-holds : tie.Need-loop3-holds Inv-loop μ-loop Inv-loop2 μ-loop2 Inv-loop3 μ-loop3
 loop3-holds c =
     let p = c .before .before in
@@ -185,29 +163,23 @@ loop3-holds c =
     let good = survey-good (a .clock) (a .count) (a .mask) (a .t4) (omega arith) (rw z at (p .loop2 .inv .1)) in
     (omega arith, rw (c .pick .ensures) (end-within (eqb (a .mask) 0) (a .count)), rw (z, e) (sym good), p .loop2 .inv .3, p .loop2 .inv .4)
 
--- src/lib.rt:301:12
 named-requires : tie.Need-named-requires Inv-loop μ-loop Inv-loop2 μ-loop2 Inv-loop3 μ-loop3
 named-requires c κs = omega arith
 
--- src/lib.rt:302:21
 mul-r-3 : tie.Need-mul-r-3 Inv-loop μ-loop Inv-loop2 μ-loop2 Inv-loop3 μ-loop3
 mul-r-3 c = omega arith
 
--- src/lib.rt:302:21
 array-copy-out-r-3 :
     tie.Need-array-copy-out-r-3 Inv-loop μ-loop Inv-loop2 μ-loop2 Inv-loop3 μ-loop3
 array-copy-out-r-3 c = omega arith
 
--- src/lib.rt:304:16
 is-younger-requires :
     tie.Need-is-younger-requires Inv-loop μ-loop Inv-loop2 μ-loop2 Inv-loop3 μ-loop3
 is-younger-requires c κs = search needs
 
--- src/lib.rt:305:17
 see-soon-requires : tie.Need-see-soon-requires Inv-loop μ-loop Inv-loop2 μ-loop2 Inv-loop3 μ-loop3
 see-soon-requires c κs = search needs
 
--- src/lib.rt:305:17
 returns-4 : tie.Need-returns-4 Inv-loop μ-loop Inv-loop2 μ-loop2 Inv-loop3 μ-loop3
 returns-4 c =
     let q = c .before .before .before .before .before .before .before in
@@ -217,20 +189,16 @@ returns-4 c =
     c .see-soon .ensures
     ∙ sym (q .loop3 .inv .2 ∙ walk-soon (a .clock) (a .mask) (a .count) (q .loop3 .w) (a .t4) (q .loop3 .i) (omega arith) (omega arith) e y)
 
--- src/lib.rt:307:13
 see-arrival-requires :
     tie.Need-see-arrival-requires Inv-loop μ-loop Inv-loop2 μ-loop2 Inv-loop3 μ-loop3
 see-arrival-requires c κs = search needs
 
--- src/lib.rt:309:9
 add-i : tie.Need-add-i Inv-loop μ-loop Inv-loop2 μ-loop2 Inv-loop3 μ-loop3
 add-i c = omega arith
 
--- src/lib.rt:300:5
 loop3-less : tie.Need-loop3-less Inv-loop μ-loop Inv-loop2 μ-loop2 Inv-loop3 μ-loop3
 loop3-less c = omega arith
 
--- src/lib.rt:300:5
 loop3-again : tie.Need-loop3-again Inv-loop μ-loop Inv-loop2 μ-loop2 Inv-loop3 μ-loop3
 loop3-again c =
     let q = c .before .before .before in
@@ -255,7 +223,6 @@ loop3-again c =
     ))
     (c .if4 .came)
 
--- src/lib.rt:276:1
 returns-5 : tie.Need-returns-5 Inv-loop μ-loop Inv-loop2 μ-loop2 Inv-loop3 μ-loop3
 returns-5 c =
     let q = c .before in

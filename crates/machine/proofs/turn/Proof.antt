@@ -9,28 +9,22 @@ use Rattle.machine.proofs.enforce.Reads as enforce-reads
 use Rattle.machine.proofs.named.Reads as named-reads
 use Rattle.machine.proofs.staged.Reads as staged-reads
 
--- src/lib.rt:423:8
 named-requires : tie.Need-named-requires
 named-requires c κs = search needs
 
--- src/lib.rt:424:9
 staged-requires : tie.Need-staged-requires
 staged-requires c κs = search needs
 
--- src/lib.rt:426:19
 enforce-requires : tie.Need-enforce-requires
 enforce-requires c κs = search needs
 
--- src/lib.rt:426:9
 staged-requires-2 : tie.Need-staged-requires-2
 staged-requires-2 c κs = search needs
 
--- src/lib.rt:418:1
 returns : tie.Need-returns
 unfolding turnedRow
 returns c = rw (sym (c .before .before .named .ensures) ∙ c .before .if1 .taken) (c .staged .ensures)
 
--- src/lib.rt:418:1
 returns-2 : tie.Need-returns-2
 unfolding turnedRow
 returns-2 c = rw (sym (c .before .before .before .named .ensures) ∙ c .before .before .if1 .left, ← c .before .enforce .ensures) (c .staged2 .ensures)

@@ -1,0 +1,4 @@
+pub mod States
+pub mod AnswerBytes
+pub mod Ends
+pub mod FileParts

@@ -1,0 +1,48 @@
+use Rattle.export.specs.State.{unreadable}
+use borrow.Author.Needs.{needs}
+use Rattle.export.proofs.state.is_unreadable.Statement.{statement}
+use Rattle.export.proofs.state.is_unreadable.Tie as tie
+use Rattle.export.proofs.state.is_unreadable.Reads as reads
+use Rattle.export.proofs.state.is_unreadable.Lts as lts
+use Rattle.export.proofs.state.number.Reads as number-reads
+
+-- src/state.rt:98:20
+number-requires : tie.Need-number-requires
+number-requires c κs = search needs
+
+-- src/state.rt:99:27
+number-requires-2 : tie.Need-number-requires-2
+number-requires-2 c κs = search needs
+
+-- src/state.rt:100:31
+number-requires-3 : tie.Need-number-requires-3
+number-requires-3 c κs = search needs
+
+-- src/state.rt:101:35
+number-requires-4 : tie.Need-number-requires-4
+number-requires-4 c κs = search needs
+
+-- src/state.rt:102:39
+number-requires-5 : tie.Need-number-requires-5
+number-requires-5 c κs = search needs
+
+-- src/state.rt:102:67
+number-requires-6 : tie.Need-number-requires-6
+number-requires-6 c κs = search needs
+
+-- src/state.rt:94:1
+returns : tie.Need-returns
+unfolding unreadable
+returns c = rw (c .number6 .ensures, c .before .number5 .ensures, c .before .before .number4 .ensures, c .before .before .before .number3 .ensures, c .before .before .before .before .number2 .ensures, c .before .before .before .before .before .number .ensures)
+
+pub is-unreadable-spec : {M : Type 1} → statement M
+is-unreadable-spec =
+    tie.close
+    (tie.spec
+    number-requires
+    number-requires-2
+    number-requires-3
+    number-requires-4
+    number-requires-5
+    number-requires-6
+    returns)

@@ -1,0 +1,185 @@
+use Rattle.export.proofs.States.{set-eight, length-eight}
+use denote.Ref.{now}
+use native.Mathlib.Omega.{arith}
+use lib.ListN.{length-set}
+use borrow.Author.Needs.{needs}
+use Rattle.export.proofs.state.put_row.Statement.{statement}
+use Rattle.export.proofs.state.put_row.Tie as tie
+use Rattle.export.proofs.state.put_row.Reads as reads
+use Rattle.export.proofs.state.put_row.Lts as lts
+use Rattle.export.proofs.state.arrival_number.Reads as arrival-number-reads
+use Rattle.export.proofs.state.stage_number.Reads as stage-number-reads
+use Rattle.export.proofs.state.ticks_number.Reads as ticks-number-reads
+
+-- src/state.rt:54:17
+cast-state : tie.Need-cast-state
+cast-state c = search needs
+
+-- src/state.rt:54:5
+mul-state : tie.Need-mul-state
+mul-state c = search needs
+
+-- src/state.rt:54:5
+slice-write-state : tie.Need-slice-write-state
+slice-write-state c = search needs
+
+-- src/state.rt:55:21
+cast-state-2 : tie.Need-cast-state-2
+cast-state-2 c = search needs
+
+-- src/state.rt:55:11
+add-state : tie.Need-add-state
+add-state c = search needs
+
+-- src/state.rt:55:5
+mul-state-2 : tie.Need-mul-state-2
+mul-state-2 c = search needs
+
+-- src/state.rt:55:5
+slice-write-state-2 : tie.Need-slice-write-state-2
+slice-write-state-2 c = simp length-set (omega arith)
+
+-- src/state.rt:56:21
+cast-state-3 : tie.Need-cast-state-3
+cast-state-3 c = search needs
+
+-- src/state.rt:56:11
+add-state-2 : tie.Need-add-state-2
+add-state-2 c = search needs
+
+-- src/state.rt:56:5
+mul-state-3 : tie.Need-mul-state-3
+mul-state-3 c = search needs
+
+-- src/state.rt:56:5
+slice-write-state-3 : tie.Need-slice-write-state-3
+slice-write-state-3 c = simp length-set (omega arith)
+
+-- src/state.rt:57:21
+cast-state-4 : tie.Need-cast-state-4
+cast-state-4 c = search needs
+
+-- src/state.rt:57:11
+add-state-3 : tie.Need-add-state-3
+add-state-3 c = search needs
+
+-- src/state.rt:57:5
+mul-state-4 : tie.Need-mul-state-4
+mul-state-4 c = search needs
+
+-- src/state.rt:57:5
+slice-write-state-4 : tie.Need-slice-write-state-4
+slice-write-state-4 c = simp length-set (omega arith)
+
+-- src/state.rt:58:21
+cast-state-5 : tie.Need-cast-state-5
+cast-state-5 c = search needs
+
+-- src/state.rt:58:11
+add-state-4 : tie.Need-add-state-4
+add-state-4 c = search needs
+
+-- src/state.rt:58:5
+mul-state-5 : tie.Need-mul-state-5
+mul-state-5 c = search needs
+
+-- src/state.rt:58:5
+slice-write-state-5 : tie.Need-slice-write-state-5
+slice-write-state-5 c = simp length-set (omega arith)
+
+-- src/state.rt:59:21
+stage-number-requires : tie.Need-stage-number-requires
+stage-number-requires c κs = search needs
+
+-- src/state.rt:59:11
+add-state-5 : tie.Need-add-state-5
+add-state-5 c = search needs
+
+-- src/state.rt:59:5
+mul-state-6 : tie.Need-mul-state-6
+mul-state-6 c = search needs
+
+-- src/state.rt:59:5
+slice-write-state-6 : tie.Need-slice-write-state-6
+slice-write-state-6 c = simp length-set (omega arith)
+
+-- src/state.rt:60:21
+arrival-number-requires : tie.Need-arrival-number-requires
+arrival-number-requires c κs = search needs
+
+-- src/state.rt:60:11
+add-state-6 : tie.Need-add-state-6
+add-state-6 c = search needs
+
+-- src/state.rt:60:5
+mul-state-7 : tie.Need-mul-state-7
+mul-state-7 c = search needs
+
+-- src/state.rt:60:5
+slice-write-state-7 : tie.Need-slice-write-state-7
+slice-write-state-7 c = simp length-set (omega arith)
+
+-- src/state.rt:61:21
+ticks-number-requires : tie.Need-ticks-number-requires
+ticks-number-requires c κs = search needs
+
+-- src/state.rt:61:11
+add-state-7 : tie.Need-add-state-7
+add-state-7 c = search needs
+
+-- src/state.rt:61:5
+mul-state-8 : tie.Need-mul-state-8
+mul-state-8 c = search needs
+
+-- src/state.rt:61:5
+slice-write-state-8 : tie.Need-slice-write-state-8
+slice-write-state-8 c = simp length-set (omega arith)
+
+-- src/state.rt:49:1
+same-length : tie.Need-same-length
+same-length c = length-eight (now (c .before .before .before .before .before .before .before .before .before .args .state)) (c .before .before .before .before .before .before .before .before .before .args .at) _ _ _ _ _ _ _ _
+
+-- src/state.rt:49:1
+returns : tie.Need-returns
+returns c =
+    let a = c .before .before .before .before .before .before .before .before .before in
+    rw (c .ticks-number .ensures, c .before .arrival-number .ensures, c .before .before .stage-number .ensures)
+    (set-eight (now (a .args .state)) (a .args .at) _ _ _ _ _ _ _ _ (a .pre))
+
+pub put-row-spec : {M : Type 1} → statement M
+put-row-spec =
+    tie.close
+    (tie.spec
+    cast-state
+    mul-state
+    slice-write-state
+    cast-state-2
+    add-state
+    mul-state-2
+    slice-write-state-2
+    cast-state-3
+    add-state-2
+    mul-state-3
+    slice-write-state-3
+    cast-state-4
+    add-state-3
+    mul-state-4
+    slice-write-state-4
+    cast-state-5
+    add-state-4
+    mul-state-5
+    slice-write-state-5
+    stage-number-requires
+    add-state-5
+    mul-state-6
+    slice-write-state-6
+    arrival-number-requires
+    add-state-6
+    mul-state-7
+    slice-write-state-7
+    ticks-number-requires
+    add-state-7
+    mul-state-8
+    slice-write-state-8
+    same-length
+    returns)

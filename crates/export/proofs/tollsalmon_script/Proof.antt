@@ -1,0 +1,42 @@
+use mathlib.Core.Path.{ap}
+use denote.Ref.{now}
+use lib.ListN.{length}
+use Rattle.plan.specs.PlanFile.{scriptKind, partOf}
+use Rattle.export.proofs.FileParts.{part-short, part-fits}
+use borrow.Author.Needs.{needs}
+use Rattle.export.proofs.tollsalmon_script.Statement.{statement}
+use Rattle.export.proofs.tollsalmon_script.Tie as tie
+use Rattle.export.proofs.tollsalmon_script.Reads as reads
+use Rattle.export.proofs.tollsalmon_script.Lts as lts
+use Rattle.export.proofs.files.copy.Reads as copy-reads
+use Rattle.plan.proofs.reader.script_of.Reads as script-of-reads
+
+-- src/lib.rt:108:9
+script-of-requires : tie.Need-script-of-requires
+script-of-requires c κs = search needs
+
+-- src/lib.rt:110:9
+returns : tie.Need-returns
+returns c =
+    let a = c .before .before .before .before .args in
+    let p = c .before .script-of in
+    (ap length (p .ensures), part-short (partOf scriptKind (now (a .file))) _ (now (a .script)) (p .ensures) (c .if1 .taken))
+
+-- src/lib.rt:112:5
+copy-requires : tie.Need-copy-requires
+copy-requires c κs = search needs
+
+-- src/lib.rt:103:1
+same-length : tie.Need-same-length
+same-length c = search needs
+
+-- src/lib.rt:103:1
+returns-2 : tie.Need-returns-2
+returns-2 c =
+    let a = c .before .before .before .before .before .before .before .before .args in
+    let p = c .before .before .before .before .before .script-of in
+    (ap length (p .ensures), part-fits (partOf scriptKind (now (a .file))) _ (now (a .script)) _ (p .ensures) (c .before .before .before .before .if1 .left) (c .before .before .copy .ensures))
+
+pub tollsalmon-script-spec : {M : Type 1} → statement M
+tollsalmon-script-spec =
+    tie.close (tie.spec script-of-requires returns copy-requires same-length returns-2)

@@ -1,0 +1,78 @@
+use mathlib.Core.Path.{sym, ap, _∙_}
+use mathlib.Core.Option.{Option}
+use denote.Ref.{now}
+use lib.ListN.{length}
+use Rattle.refusals.specs.declared.Refusal.{Refusal}
+use Rattle.plan.specs.Writer.{planFile, writeRefusal}
+use Rattle.export.specs.Files.{refusalNumber, refusalPlace}
+use Rattle.export.proofs.FileParts.{writes, writes-not}
+use borrow.Author.Needs.{needs}
+use Rattle.export.proofs.tollsalmon_write.Statement.{statement}
+use Rattle.export.proofs.tollsalmon_write.Tie as tie
+use Rattle.export.proofs.tollsalmon_write.Reads as reads
+use Rattle.export.proofs.tollsalmon_write.Lts as lts
+use Rattle.plan.proofs.writer.write.Reads as write-reads
+use Rattle.refusals.proofs.Refusal.number.Reads as number-reads
+use Rattle.refusals.proofs.Refusal.place.Reads as place-reads
+
+-- src/lib.rt:133:11
+write-requires : tie.Need-write-requires
+write-requires c κs = search needs
+
+-- src/lib.rt:134:26
+enum-known-n : tie.Need-enum-known-n
+enum-known-n c = search needs
+
+-- src/lib.rt:138:26
+enum-known-r : tie.Need-enum-known-r
+enum-known-r c = search needs
+
+-- src/lib.rt:139:22
+place-requires : tie.Need-place-requires
+place-requires c κs = search needs
+
+-- src/lib.rt:140:13
+number-requires : tie.Need-number-requires
+number-requires c κs = search needs
+
+-- src/lib.rt:117:1
+same-length : tie.Need-same-length
+same-length c = search needs
+
+-- src/lib.rt:117:1
+returns : tie.Need-returns
+returns c =
+    let a = c .before .before .before .before .before .before .before .before .before .before .args in
+    let o = writeRefusal (now (a .table)) (now (a .script)) (length (now (a .output))) in
+    let n = length (planFile (now (a .table)) (now (a .script))) in
+    let w = c .before .before .before .before .before .write .ensures in
+    let e = writes o n _ (sym (c .before .n .given .1) ∙ w .answers) in
+    (ap refusalNumber (sym (e .0)), (e .1 ∙ ap (λ (x : Option Refusal). refusalPlace x n) (sym (e .0)), w .leaves))
+
+-- src/lib.rt:117:1
+same-length-2 : tie.Need-same-length-2
+same-length-2 c = search needs
+
+-- src/lib.rt:117:1
+returns-2 : tie.Need-returns-2
+returns-2 c =
+    let a = c .before .before .before .before .before .before .before .before .before .before .before .before .args in
+    let o = writeRefusal (now (a .table)) (now (a .script)) (length (now (a .output))) in
+    let n = length (planFile (now (a .table)) (now (a .script))) in
+    let w = c .before .before .before .before .before .before .before .write .ensures in
+    let e = writes-not o n _ (sym (c .before .before .before .r .given .1) ∙ w .answers) in
+    (c .number .ensures ∙ ap refusalNumber (sym e), (c .before .place .ensures ∙ ap (λ (x : Option Refusal). refusalPlace x n) (sym e), w .leaves))
+
+pub tollsalmon-write-spec : {M : Type 1} → statement M
+tollsalmon-write-spec =
+    tie.close
+    (tie.spec
+    write-requires
+    enum-known-n
+    enum-known-r
+    place-requires
+    number-requires
+    same-length
+    returns
+    same-length-2
+    returns-2)
