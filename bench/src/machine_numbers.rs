@@ -90,7 +90,7 @@ fn run(
     for (record, answer) in records.chunks_exact(RECORD).zip(answers.chunks_exact_mut(ANSWER)) {
         let mask = u32::from_le_bytes([record[0], record[1], record[2], record[3]]);
         let clock = machine.clock;
-        let stepped = step(machine, mask, record[4], record[5] != 0);
+        let stepped = step(machine, mask, record[4], record[5] == 1);
         machine = stepped.machine;
         answer.copy_from_slice(&stepped.answer.bytes(clock));
         ticks += 1;

@@ -4,6 +4,7 @@
 mod edits;
 mod edits_machine;
 mod edits_plan;
+mod edits_text;
 
 use edits::{Edit, ANALYSIS};
 use std::path::PathBuf;
@@ -14,6 +15,7 @@ fn main() {
     write_broken();
     edits_machine::write_broken_machines();
     edits_plan::write_broken_plans();
+    edits_text::write_broken_texts();
 }
 
 /// The folder of libexport.a: TOLLSALMON_LIB, or the repository's target/staticlib.

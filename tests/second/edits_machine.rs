@@ -379,8 +379,8 @@ const NUMBERS: &[Edit] = &[
     edit("fields cut down to 32 bits", "u32::try_from(numbers[place]).ok()", "Some(numbers[place] as u32)"),
     edit("no tick clears the spare numbers", "if taken > 0 {", "if taken < u64::MAX {"),
     edit("spare numbers kept", "Stage::Never => (0, 0, 0),", "Stage::Never => (0, row.T.into(), 0),"),
-    edit("early mark 1 alone", "record[5] != 0", "record[5] == 1"),
-    edit("the spare bytes looked at", "record[5] != 0", "record[5] | record[6] != 0"),
+    edit("any early byte but 0 a mark", "record[5] == 1", "record[5] != 0"),
+    edit("the spare bytes looked at", "record[5] == 1", "record[5] | record[6] == 1"),
     edit(
         "the clock after the tick answered",
         "bytes_of(machine.clock, &answer)",

@@ -2,7 +2,7 @@
 mod answers;
 mod files;
 pub mod state;
-mod ticks;
+pub mod ticks;
 
 use plan::Answer;
 use plan::Writing;

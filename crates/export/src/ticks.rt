@@ -17,7 +17,8 @@ ghost use Rattle.plan.specs.Numbers.{bytesOf};
 ghost use Rattle.plan.specs.Bodies.{tickAt};
 ghost use Rattle.export.specs.Ticks.{whoOf, taskOf, markOf, bitOf, saidOf, answerBytes, machineAfter, answerTo};
 
-fn who_of(r: Ran) -> u8
+// The four numbers of what a tick that was taken says.
+pub fn who_of(r: Ran) -> u8
     ensures { λ n. ⌜ n ≡ whoOf r ⌝ }
 {
     match r {
@@ -27,7 +28,7 @@ fn who_of(r: Ran) -> u8
     }
 }
 
-fn task_of(r: Ran) -> usize
+pub fn task_of(r: Ran) -> usize
     ensures { λ n. ⌜ n ≡ taskOf r ⌝ }
 {
     match r {
@@ -37,7 +38,7 @@ fn task_of(r: Ran) -> usize
     }
 }
 
-fn mark_of(m: Mark) -> u8
+pub fn mark_of(m: Mark) -> u8
     ensures { λ n. ⌜ n ≡ markOf m ⌝ }
 {
     match m {
@@ -47,7 +48,7 @@ fn mark_of(m: Mark) -> u8
     }
 }
 
-fn bit_of(b: bool) -> u8
+pub fn bit_of(b: bool) -> u8
     ensures { λ n. ⌜ n ≡ bitOf b ⌝ }
 {
     if b { 1 } else { 0 }

@@ -6,6 +6,7 @@ pub mod answer;
 pub mod broken;
 pub mod broken_machine;
 pub mod broken_plan;
+pub mod broken_text;
 pub mod command;
 pub mod dice;
 pub mod machine;
@@ -17,6 +18,8 @@ pub mod plan;
 pub mod plan_files;
 pub mod scripts;
 pub mod tables;
+pub mod text;
+pub mod text_plans;
 
 #[cfg(test)]
 mod cases;
@@ -24,3 +27,5 @@ mod cases;
 mod machine_cases;
 #[cfg(test)]
 mod plan_cases;
+#[cfg(test)]
+mod text_cases;

@@ -136,7 +136,7 @@ fn accepted(dice: &mut Dice) -> Case {
 }
 
 /// Short periods, made longer until the table is accepted.
-fn accepted_table(dice: &mut Dice, rows: u64) -> Vec<u32> {
+pub fn accepted_table(dice: &mut Dice, rows: u64) -> Vec<u32> {
     let (longest_guest, longest_hypertask) = (dice.from_to(1, 6), dice.one_of(&[1, 1, 2, 3, 5]));
     let mut periods: Vec<u64> = (0..rows).map(|_| dice.from_to(2, 6 * rows + 2)).collect();
     if dice.percent(70) {

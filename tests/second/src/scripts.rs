@@ -155,10 +155,10 @@ pub fn script(dice: &mut Dice, machine: Machine, ticks: u64) -> (Vec<u8>, Met) {
     (records, met)
 }
 
-/// Any nonzero byte is the early mark, and the last two bytes are not looked at.
+/// The byte 1 is the early mark and no other byte is; the last two bytes are not looked at.
 fn record(dice: &mut Dice, tick: Tick) -> [u8; 8] {
     let [a, b, c, d] = tick.mask.to_le_bytes();
-    let early = if tick.early { dice.one_of(&[1, 1, 1, 2, 128, 255]) } else { 0 };
+    let early = if tick.early { 1 } else { dice.one_of(&[0, 0, 0, 0, 0, 0, 0, 2, 128, 255]) };
     let spare = if dice.percent(10) { dice.number().to_le_bytes() } else { [0; 8] };
     [a, b, c, d, tick.signal, early, spare[0], spare[1]]
 }

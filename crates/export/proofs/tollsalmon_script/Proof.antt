@@ -35,7 +35,9 @@ returns-2 : tie.Need-returns-2
 returns-2 c =
     let a = c .before .before .before .before .before .before .before .before .args in
     let p = c .before .before .before .before .before .script-of in
-    (ap length (p .ensures), part-fits (partOf scriptKind (now (a .file))) _ (now (a .script)) _ (p .ensures) (c .before .before .before .before .if1 .left) (c .before .before .copy .ensures))
+    let fits = c .before .before .before .before .if1 .left in
+    let copied = c .before .before .copy .ensures in
+    (ap length (p .ensures), part-fits (partOf scriptKind (now (a .file))) _ (now (a .script)) _ (p .ensures) fits copied)
 
 pub tollsalmon-script-spec : {M : Type 1} → statement M
 tollsalmon-script-spec =

@@ -39,7 +39,9 @@ returns-2 : tie.Need-returns-2
 returns-2 c =
     let a = c .before .before .before .before .before .before .before .before .before .before .before .args in
     let s = c .before .before .before .before .before .before .before .start in
-    start-done (now (a .table)) (now (a .state)) _ (s .result) _ _ (c .before .before .before .before .before .before .before .before .if1 .left) (s .ensures) (c .number-in .ensures) (c .before .place-in .ensures) (c .before .before .before .before .put .ensures)
+    start-done (now (a .table)) (now (a .state)) _ (s .result) _ _
+    (c .before .before .before .before .before .before .before .before .if1 .left) (s .ensures) (c .number-in .ensures) (c .before .place-in .ensures)
+    (c .before .before .before .before .put .ensures)
 
 pub tollsalmon-start-spec : {M : Type 1} → statement M
 tollsalmon-start-spec =

@@ -28,9 +28,11 @@ returns c =
     let a = c .before .before .before .before .before .before .before .args in
     let f = now (a .file) in
     let part = partOf rowsKind f in
-    let r = c .before .before .before .before .rows-of in (
+    let r = c .before .before .before .before .rows-of in
+    let bytes = c .before .before .before .before .before .before .shared-slice-known .given in
+    let fours = rows-fours f (λ j h. omega (arith, bytes j)) in (
       table-length part _ (r .ensures),
-      table-front part _ (now (a .table)) _ (r .ensures) (rows-fours f (λ j h. omega (arith, c .before .before .before .before .before .before .shared-slice-known .given j))) (c .before .before .table-of .ensures .leaves),
+      table-front part _ (now (a .table)) _ (r .ensures) fours (c .before .before .table-of .ensures .leaves),
     )
 
 pub tollsalmon-table-spec : {M : Type 1} → statement M

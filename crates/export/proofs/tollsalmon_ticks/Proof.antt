@@ -45,7 +45,8 @@ returns-2 c =
     let a = c .before .before .before .before .before .before .before .before .before .args in
     let s = now (a .state) in
     ticks-none s (now (a .records)) (now (a .answers)) (length (now (a .records))) (length (now (a .answers))) _
-    (read-says s _ _ (c .before .before .before .before .read .ensures) (not-false _ (c .before .if1 .left))) (c .before .before .before .how-many .ensures) (c .if2 .taken)
+    (read-says s _ _ (c .before .before .before .before .read .ensures) (not-false _ (c .before .if1 .left)))
+    (c .before .before .before .how-many .ensures) (c .if2 .taken)
 
 -- src/lib.rt:68:9
 run-requires : tie.Need-run-requires
@@ -55,7 +56,9 @@ run-requires c κs = let h = c .before .before .before .before .before .how-many
 put-requires : tie.Need-put-requires
 put-requires c κs =
     let s = now (c .before .before .before .before .before .before .before .before .before .before .before .before .before .before .before .args .state) in
-    can-read s (read-says s _ _ (c .before .before .before .before .before .before .before .before .before .before .read .ensures) (not-false _ (c .before .before .before .before .before .before .before .if1 .left))) .long
+    let d = c .before .before .before .before .before .before .before .before .before .before .read in
+    let h = read-says s (d .result) _ (d .ensures) (not-false _ (c .before .before .before .before .before .before .before .if1 .left)) in
+    can-read s h .long
 
 -- src/lib.rt:53:1
 same-length-3 : tie.Need-same-length-3
@@ -68,13 +71,15 @@ same-length-4 c = search needs
 -- src/lib.rt:53:1
 returns-3 : tie.Need-returns-3
 returns-3 c =
-    let a = c .before .before .before .before .before .before .before .before .before .before .before .before .before .before .before .before .before .before .args in
+    let x = c .before .before .before .before .before .before .before .before .before in
+    let a = x .before .before .before .before .before .before .before .before .before .args in
     let s = now (a .state) in
-    let d = c .before .before .before .before .before .before .before .before .before .before .before .before .before .read in
-    let h = read-says s (d .result) _ (d .ensures) (not-false _ (c .before .before .before .before .before .before .before .before .before .before .if1 .left)) in
+    let d = x .before .before .before .before .read in
+    let h = read-says s (d .result) _ (d .ensures) (not-false _ (x .before .if1 .left)) in
     let r = c .before .before .before .before .before .before .run in
     ticks-taken s (now (a .records)) (now (a .answers)) _ _ (length (now (a .records))) (length (now (a .answers))) _ (d .result .machine) (r .result) h
-    (c .before .before .before .before .before .before .before .before .before .before .before .before .how-many .ensures) (c .before .before .before .before .before .before .before .before .before .if2 .left) (read-machine s (d .result) (d .ensures) h) (r .ensures .0) (c .before .before .put .ensures) (r .ensures .1)
+    (x .before .before .before .how-many .ensures) (x .if2 .left) (read-machine s (d .result) (d .ensures) h)
+    (r .ensures .0) (c .before .before .put .ensures) (r .ensures .1)
 
 pub tollsalmon-ticks-spec : {M : Type 1} → statement M
 tollsalmon-ticks-spec =

@@ -33,7 +33,16 @@ number-requires-6 c κs = search needs
 -- src/state.rt:94:1
 returns : tie.Need-returns
 unfolding unreadable
-returns c = rw (c .number6 .ensures, c .before .number5 .ensures, c .before .before .number4 .ensures, c .before .before .before .number3 .ensures, c .before .before .before .before .number2 .ensures, c .before .before .before .before .before .number .ensures)
+returns c =
+    let a = c .before .before .before in
+    rw (
+      c .number6 .ensures,
+      c .before .number5 .ensures,
+      c .before .before .number4 .ensures,
+      a .number3 .ensures,
+      a .before .number2 .ensures,
+      a .before .before .number .ensures,
+    )
 
 pub is-unreadable-spec : {M : Type 1} → statement M
 is-unreadable-spec =

@@ -24,7 +24,9 @@ put-rows-requires c κs = search needs
 
 -- src/state.rt:74:1
 same-length : tie.Need-same-length
-same-length c = let a = c .before .before .before .before .before .before in c .before .state .given ∙ length-two (now (a .args .state)) (a .args .m .count) (a .args .m .clock)
+same-length c =
+    let a = c .before .before .before .before .before .before in
+    c .before .state .given ∙ length-two (now (a .args .state)) (a .args .m .count) (a .args .m .clock)
 
 -- src/state.rt:74:1
 returns : tie.Need-returns

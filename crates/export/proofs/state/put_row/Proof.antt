@@ -137,7 +137,9 @@ slice-write-state-8 c = simp length-set (omega arith)
 
 -- src/state.rt:49:1
 same-length : tie.Need-same-length
-same-length c = length-eight (now (c .before .before .before .before .before .before .before .before .before .args .state)) (c .before .before .before .before .before .before .before .before .before .args .at) _ _ _ _ _ _ _ _
+same-length c =
+    let a = c .before .before .before .before .before .before .before .before .before .args in
+    length-eight (now (a .state)) (a .at) _ _ _ _ _ _ _ _
 
 -- src/state.rt:49:1
 returns : tie.Need-returns

@@ -59,9 +59,10 @@ loop-again : tie.Need-loop-again Inv-loop μ-loop
 loop-again c =
     let a = c .before .before .before .before .before .before .before .before in
     let s = now (a .args .state) in
-    let l = c .before .before .before .before .before .before .loop in (
+    let l = c .before .before .before .before .before .before .loop in
+    let two = length-take-le 2 s (omega (arith, a .pre)) in (
       omega arith,
-      c .before .before .put-row .ensures ∙ block-after (take 2 s) 2 (length-take-le 2 s (omega (arith, a .pre))) (placeNumbers (a .args .t2)) 8 (λ k. refl) s (l .state) (l .i) (l .inv .1),
+      c .before .before .put-row .ensures ∙ block-after (take 2 s) 2 two (placeNumbers (a .args .t2)) 8 (λ k. refl) s (l .state) (l .i) (l .inv .1),
       omega arith,
     )
 

@@ -20,7 +20,9 @@ machine-in-requires c κs = sym (c .before .is-readable .ensures) ∙ c .if1 .ta
 
 -- src/state.rt:179:9
 returns : tie.Need-returns
-returns c = read-ok (now (c .before .before .before .before .args .state)) _ (sym (c .before .before .is-readable .ensures) ∙ c .before .if1 .taken) (c .machine-in .ensures)
+returns c =
+    read-ok (now (c .before .before .before .before .args .state)) _ (sym (c .before .before .is-readable .ensures) ∙ c .before .if1 .taken)
+    (c .machine-in .ensures)
 
 -- src/state.rt:187:20
 no-row-requires : tie.Need-no-row-requires
@@ -28,7 +30,9 @@ no-row-requires c κs = search needs
 
 -- src/state.rt:175:1
 returns-2 : tie.Need-returns-2
-returns-2 c = read-not (now (c .before .before .before .before .args .state)) _ (sym (c .before .before .is-readable .ensures) ∙ c .before .if1 .left) (c .no-row .ensures)
+returns-2 c =
+    read-not (now (c .before .before .before .before .args .state)) _ (sym (c .before .before .is-readable .ensures) ∙ c .before .if1 .left)
+    (c .no-row .ensures)
 
 pub read-spec : {M : Type 1} → statement M
 read-spec =

@@ -31,7 +31,9 @@ number-requires-4 c κs = search needs
 
 -- src/state.rt:143:12
 cast-t7 : tie.Need-cast-t7
-cast-t7 c = let a = c .before .before .before .before .before .before in omega (arith, c .number4 .ensures, fields (now (a .args .state)) (a .args .i) (a .pre .2) .t-fits)
+cast-t7 c =
+    let a = c .before .before .before .before .before .before in
+    omega (arith, c .number4 .ensures, fields (now (a .args .state)) (a .args .i) (a .pre .2) .t-fits)
 
 -- src/state.rt:144:12
 number-requires-5 : tie.Need-number-requires-5
@@ -39,7 +41,9 @@ number-requires-5 c κs = search needs
 
 -- src/state.rt:144:12
 cast-t8 : tie.Need-cast-t8
-cast-t8 c = let a = c .before .before .before .before .before .before .before in omega (arith, c .number5 .ensures, fields (now (a .args .state)) (a .args .i) (a .pre .2) .d-fits)
+cast-t8 c =
+    let a = c .before .before .before .before .before .before .before in
+    omega (arith, c .number5 .ensures, fields (now (a .args .state)) (a .args .i) (a .pre .2) .d-fits)
 
 -- src/state.rt:145:12
 number-requires-6 : tie.Need-number-requires-6
@@ -47,7 +51,9 @@ number-requires-6 c κs = search needs
 
 -- src/state.rt:145:12
 cast-t9 : tie.Need-cast-t9
-cast-t9 c = let a = c .before .before .before .before .before .before .before .before in omega (arith, c .number6 .ensures, fields (now (a .args .state)) (a .args .i) (a .pre .2) .c-fits)
+cast-t9 c =
+    let a = c .before .before .before .before .before .before .before .before in
+    omega (arith, c .number6 .ensures, fields (now (a .args .state)) (a .args .i) (a .pre .2) .c-fits)
 
 -- src/state.rt:146:12
 number-requires-7 : tie.Need-number-requires-7
@@ -55,7 +61,9 @@ number-requires-7 c κs = search needs
 
 -- src/state.rt:146:12
 cast-t11 : tie.Need-cast-t11
-cast-t11 c = let a = c .before .before .before .before .before .before .before .before .before in omega (arith, c .number7 .ensures, fields (now (a .args .state)) (a .args .i) (a .pre .2) .k-fits)
+cast-t11 c =
+    let a = c .before .before .before .before .before .before .before .before .before in
+    omega (arith, c .number7 .ensures, fields (now (a .args .state)) (a .args .i) (a .pre .2) .k-fits)
 
 -- src/state.rt:147:12
 number-requires-8 : tie.Need-number-requires-8
@@ -63,15 +71,20 @@ number-requires-8 c κs = search needs
 
 -- src/state.rt:147:12
 cast-t13 : tie.Need-cast-t13
-cast-t13 c = let a = c .before .before .before .before .before .before .before .before .before .before in omega (arith, c .number8 .ensures, fields (now (a .args .state)) (a .args .i) (a .pre .2) .e-fits)
+cast-t13 c =
+    let a = c .before .before .before .before .before .before .before .before .before .before in
+    omega (arith, c .number8 .ensures, fields (now (a .args .state)) (a .args .i) (a .pre .2) .e-fits)
 
 -- src/state.rt:137:1
 returns : tie.Need-returns
 returns c =
     let a = c .before .before .before .before .before .before .before .before .before .before in
     row-is (now (a .args .state)) (a .args .i) _ _ _ _ _ _ _ _ _
-    (c .before .before .before .before .before .before .before .before .number .ensures) (c .before .before .before .before .before .before .before .number2 .ensures) (c .before .before .before .before .before .before .number3 .ensures) (c .before .before .before .before .before .stage-in .ensures)
-    (c .before .before .before .before .number4 .ensures) (c .before .before .before .number5 .ensures) (c .before .before .number6 .ensures) (c .before .number7 .ensures) (c .number8 .ensures)
+    (c .before .before .before .before .before .before .before .before .number .ensures)
+    (c .before .before .before .before .before .before .before .number2 .ensures) (c .before .before .before .before .before .before .number3 .ensures)
+    (c .before .before .before .before .before .stage-in .ensures)
+    (c .before .before .before .before .number4 .ensures) (c .before .before .before .number5 .ensures)
+    (c .before .before .number6 .ensures) (c .before .number7 .ensures) (c .number8 .ensures)
 
 pub row-in-spec : {M : Type 1} → statement M
 row-in-spec =

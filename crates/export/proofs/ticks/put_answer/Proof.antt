@@ -28,7 +28,8 @@ same-length c = search needs
 returns : tie.Need-returns
 returns c =
     let s = c .before .before .before .before .before .before .before .before .before in
-    answer-put (now (s .args .answers)) (s .args .at) (s .args .clock) (s .args .a) (s .pre) (c .before .before .before .before .before .before .put-number .ensures) (c .before .before .put-said .ensures)
+    answer-put (now (s .args .answers)) (s .args .at) (s .args .clock) (s .args .a) (s .pre)
+    (c .before .before .before .before .before .before .put-number .ensures) (c .before .before .put-said .ensures)
 
 pub put-answer-spec : {M : Type 1} → statement M
 put-answer-spec =

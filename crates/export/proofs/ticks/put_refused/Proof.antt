@@ -42,7 +42,8 @@ same-length c = search needs
 returns : tie.Need-returns
 returns c =
     let a = c .before .before .before .before .before .before .before .before .before .before .before .args in
-    said-refused (now (a .answers)) (a .at) (a .r) _ _ (c .before .before .before .before .before .before .before .before .place .ensures) (c .before .before .before .number .ensures)
+    said-refused (now (a .answers)) (a .at) (a .r) _ _ (c .before .before .before .before .before .before .before .before .place .ensures)
+    (c .before .before .before .number .ensures)
     (c .before .before .before .before .before .before .before .put-number .ensures) (c .before .before .put-four .ensures)
 
 pub put-refused-spec : {M : Type 1} → statement M

@@ -35,7 +35,8 @@ same-length c = search needs
 returns : tie.Need-returns
 returns c =
     let a = c .before .before .before .before .before .before .before .before .args in
-    c .before .before .put-taken .ensures ∙ ap (λ (x : Answer). sets (now (a .answers)) (a .at) (saidOf x)) (sym (c .before .before .before .before .before .a .given .1))
+    let e = c .before .before .before .before .before .a .given .1 in
+    c .before .before .put-taken .ensures ∙ ap (λ (x : Answer). sets (now (a .answers)) (a .at) (saidOf x)) (sym e)
 
 -- src/ticks.rt:99:1
 same-length-2 : tie.Need-same-length-2
@@ -45,7 +46,8 @@ same-length-2 c = search needs
 returns-2 : tie.Need-returns-2
 returns-2 c =
     let a = c .before .before .before .before .before .before .before .before .args in
-    c .before .before .put-refused .ensures ∙ ap (λ (x : Answer). sets (now (a .answers)) (a .at) (saidOf x)) (sym (c .before .before .before .before .before .a2 .given .1))
+    let e = c .before .before .before .before .before .a2 .given .1 in
+    c .before .before .put-refused .ensures ∙ ap (λ (x : Answer). sets (now (a .answers)) (a .at) (saidOf x)) (sym e)
 
 pub put-said-spec : {M : Type 1} → statement M
 put-said-spec =

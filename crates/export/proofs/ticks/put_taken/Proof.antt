@@ -52,8 +52,10 @@ same-length c = search needs
 returns : tie.Need-returns
 returns c =
     let a = c .before .before .before .before .before .before .before .before .before .before .before .before .before .args in
-    said-taken (now (a .answers)) (a .at) (a .t) _ _ _ _ (c .before .before .before .before .before .before .who-of .ensures) (c .before .before .before .before .before .task-of .ensures)
-    (c .before .before .before .before .mark-of .ensures) (c .before .before .before .bit-of .ensures) (c .before .before .before .before .before .before .before .before .before .before .put-number .ensures) (c .before .before .put-four .ensures)
+    said-taken (now (a .answers)) (a .at) (a .t) _ _ _ _ (c .before .before .before .before .before .before .who-of .ensures)
+    (c .before .before .before .before .before .task-of .ensures)
+    (c .before .before .before .before .mark-of .ensures) (c .before .before .before .bit-of .ensures)
+    (c .before .before .before .before .before .before .before .before .before .before .put-number .ensures) (c .before .before .put-four .ensures)
 
 pub put-taken-spec : {M : Type 1} → statement M
 put-taken-spec =

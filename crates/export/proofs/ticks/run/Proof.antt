@@ -17,7 +17,8 @@ use Rattle.export.proofs.ticks.tick_of.Reads as tick-of-reads
 use Rattle.machine.proofs.Machine.step.Reads as step-reads
 
 abbrev Inv-loop : tie.InvT-loop
-Inv-loop records answers₀ n at₀ i₀ answers at i = (i ≤ n) × (at ≡ machineAfter at₀ records i) × (answers ≡ flat (answerTo at₀ records) i ++ drop (12 * i) answers₀) × (length answers ≡ length answers₀)
+Inv-loop records answers₀ n at₀ i₀ answers at i =
+    (i ≤ n) × (at ≡ machineAfter at₀ records i) × (answers ≡ flat (answerTo at₀ records) i ++ drop (12 * i) answers₀) × (length answers ≡ length answers₀)
 
 abbrev μ-loop : tie.MeasureT-loop
 μ-loop records answers₀ n at₀ i₀ answers at i = n - i
@@ -57,10 +58,12 @@ loop-again c =
     let a = c .before .before .before .before .before .before .before .before .before .before .before .args in
     let l = c .before .before .before .before .before .before .before .before .loop in
     let t = c .before .before .before .before .before .before .tick-of in
-    let s = c .before .before .before .before .before .step in (
+    let s = c .before .before .before .before .before .step in
+    let rs = now (a .records) in
+    let put = c .before .before .before .put-answer .ensures in (
       omega arith,
-      machine-more (a .m) (now (a .records)) (l .i) (l .at) (t .result) (s .result) (l .inv .1) (t .ensures) (s .ensures),
-      answer-more (a .m) (now (a .records)) (l .i) (l .at) (t .result) (s .result) (now (a .answers)) (l .answers) _ (l .inv .1) (t .ensures) (s .ensures) (l .inv .2) (c .before .before .before .put-answer .ensures),
+      machine-more (a .m) rs (l .i) (l .at) (t .result) (s .result) (l .inv .1) (t .ensures) (s .ensures),
+      answer-more (a .m) rs (l .i) (l .at) (t .result) (s .result) (now (a .answers)) (l .answers) _ (l .inv .1) (t .ensures) (s .ensures) (l .inv .2) put,
       omega (arith, l .inv .3),
     )
 
@@ -74,7 +77,8 @@ returns c =
     let a = c .before .before .before .before .args in
     let l = c .before .loop in
     let e : l .i ≡ a .n = omega arith in
-    (l .inv .1 ∙ ap (machineAfter (a .m) (now (a .records))) e, l .inv .2 ∙ ap (λ (x : ℕ). flat (answerTo (a .m) (now (a .records))) x ++ drop (12 * x) (now (a .answers))) e)
+    let rs = now (a .records) in
+    (l .inv .1 ∙ ap (machineAfter (a .m) rs) e, l .inv .2 ∙ ap (λ (x : ℕ). flat (answerTo (a .m) rs) x ++ drop (12 * x) (now (a .answers))) e)
 
 pub run-spec : {M : Type 1} → statement M
 run-spec =

@@ -1,0 +1,89 @@
+//! Compares the library's text of a plan with the second program's: its length, its bytes, and
+//! every place of what was lent for it, with room enough and with too little.
+//!
+//!     compare_text [SEED]               the library
+//!     compare_text --self-test [SEED]   programs with one fault each: every one must be noticed
+
+mod difference;
+#[path = "../compare_plan/lent.rs"]
+mod lent;
+mod library;
+mod program;
+mod show;
+mod stray;
+mod tally;
+
+use difference::{compare, Difference};
+use library::Library;
+use program::Program;
+use second::broken_text::{self, Text};
+use second::command::compare_main;
+use second::text::text;
+use second::text_plans::{hand_on, Case};
+use show::show;
+use std::process::ExitCode;
+use stray::STRAY;
+use tally::Tally;
+
+fn main() -> ExitCode {
+    compare_main("compare_text", compare_with_the_library, notice_the_broken)
+}
+
+fn compare_with_the_library(seed: u64) -> bool {
+    let mut tally = Tally::default();
+    hand_on(seed, &mut |case| {
+        let expected = text(&case.file);
+        let compared = compare(&Library, &case.file, &expected);
+        if let (Err(difference), 0) = (&compared, tally.different) {
+            show_first(case, difference);
+        }
+        tally.count(case, &expected, compared.is_ok());
+        true
+    });
+    println!("the library's text of a plan beside the second program's, seed {seed}");
+    tally.print();
+    tally.is_good()
+}
+
+fn show_first(case: &Case, difference: &Difference) {
+    println!("first difference, a plan of the kind {:?}: {}", case.kind, difference.words);
+    show(&case.file, difference.line);
+}
+
+const SECOND: Text = text;
+
+/// The programs with one fault each: in the text itself, or in what is said and written of it.
+fn broken_programs() -> Vec<(&'static str, &'static dyn Program)> {
+    let broken = broken_text::TEXT.iter().map(|(name, program)| (*name, program as &dyn Program));
+    let stray = STRAY.iter().map(|(name, program)| (*name, program as &dyn Program));
+    broken.chain(stray).collect()
+}
+
+/// The same comparison with each broken program in the library's place, until all are noticed.
+fn notice_the_broken(seed: u64) -> bool {
+    let mut unnoticed = broken_programs();
+    let all = unnoticed.len();
+    let mut plans = 0;
+    let mut sound_is_same = true;
+    hand_on(seed, &mut |case| {
+        plans += 1;
+        let expected = text(&case.file);
+        sound_is_same &= compare(&SECOND, &case.file, &expected).is_ok();
+        unnoticed.retain(|(name, program)| {
+            let same = compare(*program, &case.file, &expected).is_ok();
+            if !same {
+                println!("noticed at plan {plans:>6} ({:?}): {name}", case.kind);
+            }
+            same
+        });
+        !unnoticed.is_empty()
+    });
+    for (name, _) in &unnoticed {
+        println!("FAILED: not noticed: {name}");
+    }
+    if !sound_is_same {
+        println!("FAILED: the program without a fault is taken for a different one");
+    }
+    println!("{} of {all} broken texts noticed", all - unnoticed.len());
+    unnoticed.is_empty() && sound_is_same
+}

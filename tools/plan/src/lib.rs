@@ -1,0 +1,26 @@
+//! A plan in two forms: the file of document 01, and a text that people write and read.
+//!
+//! ```text
+//! rows         # T D C K, the highest priority first
+//! 10 8 3 2
+//!
+//! ticks        # arrivals, signal, early mark
+//! t1 - -
+//! - - - x7     # seven times
+//! ```
+//!
+//! A `#` begins a comment. Arrivals are tasks (`t1+t3`), the mask as a number (`5`, `0x5`,
+//! `0b101`) or `-` for none; the signal is a number from 0 to 255 and the early mark 0 or 1, with
+//! `-` for 0. What a field may be is the analysis's concern: any number of 32 bits is taken.
+
+pub mod file;
+pub mod make;
+pub mod plan;
+pub mod show;
+
+#[cfg(test)]
+mod file_cases;
+#[cfg(test)]
+mod round_trips;
+#[cfg(test)]
+mod text_cases;
