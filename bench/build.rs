@@ -1,4 +1,4 @@
-//! Tells the linker where the library lies: TOLLSALMON_LIB, or the repository's target/staticlib.
+//! Tells the linker where the two libraries lie: TOLLSALMON_LIB, or the repository's target/staticlib.
 
 use std::env;
 use std::path::PathBuf;
@@ -8,6 +8,8 @@ fn main() {
     let folder = env::var("TOLLSALMON_LIB").map_or_else(|_| default(), PathBuf::from);
     println!("cargo:rerun-if-changed=build.rs");
     println!("cargo:rerun-if-env-changed=TOLLSALMON_LIB");
-    println!("cargo:rerun-if-changed={}", folder.join("libexport.a").display());
+    for library in ["libexport.a", "libpace.a"] {
+        println!("cargo:rerun-if-changed={}", folder.join(library).display());
+    }
     println!("cargo:rustc-link-search=native={}", folder.display());
 }

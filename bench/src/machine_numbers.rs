@@ -2,6 +2,7 @@
 //! records and answers as bytes. Each call is there three times, by how the step is inlined.
 
 use crate::machine::{Machine, Row, Stage, Stepped};
+use std::hint::black_box;
 
 pub const NUMBERS: usize = 258;
 pub const RECORD: usize = 8;
@@ -54,10 +55,10 @@ fn write(machine: &Machine, state: &mut Numbers) {
     }
 }
 
-/// The same tick that many times, with a running sum of the answers.
+/// The same tick that many times, with a running sum of the answers; the numbers are only read.
 #[inline(always)]
 fn repeat(
-    state: &mut Numbers,
+    state: &Numbers,
     (mask, signal, early): (u32, u8, bool),
     times: u64,
     step: impl Fn(Machine, u32, u8, bool) -> Stepped,
@@ -71,7 +72,7 @@ fn repeat(
         machine = stepped.machine;
         sum = sum.wrapping_add(stepped.answer.sum());
     }
-    write(&machine, state);
+    black_box(&machine);
     sum
 }
 
@@ -99,21 +100,21 @@ fn run(
     ticks
 }
 
-pub type Repeat = fn(&mut Numbers, (u32, u8, bool), u64) -> u64;
+pub type Repeat = fn(&Numbers, (u32, u8, bool), u64) -> u64;
 pub type Run = fn(&mut Numbers, &[u8], &mut [u8]) -> u64;
 
 #[inline(never)]
-pub fn repeat_as_decided(state: &mut Numbers, tick: (u32, u8, bool), times: u64) -> u64 {
+pub fn repeat_as_decided(state: &Numbers, tick: (u32, u8, bool), times: u64) -> u64 {
     repeat(state, tick, times, Machine::step)
 }
 
 #[inline(never)]
-pub fn repeat_called(state: &mut Numbers, tick: (u32, u8, bool), times: u64) -> u64 {
+pub fn repeat_called(state: &Numbers, tick: (u32, u8, bool), times: u64) -> u64 {
     repeat(state, tick, times, Machine::step_called)
 }
 
 #[inline(never)]
-pub fn repeat_inlined(state: &mut Numbers, tick: (u32, u8, bool), times: u64) -> u64 {
+pub fn repeat_inlined(state: &Numbers, tick: (u32, u8, bool), times: u64) -> u64 {
     repeat(state, tick, times, |machine, mask, signal, early| machine.step_inlined(mask, signal, early))
 }
 

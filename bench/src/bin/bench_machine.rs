@@ -22,9 +22,12 @@ extern "C" {
         answers: *mut u8,
         answers_len: usize,
     ) -> u64;
+}
 
+#[link(name = "pace", kind = "static")]
+extern "C" {
     fn tollsalmon_bench_ticks(
-        state: *mut u64,
+        state: *const u64,
         state_len: usize,
         mask: u32,
         signal: u8,
@@ -33,9 +36,9 @@ extern "C" {
     ) -> u64;
 }
 
-fn library_repeat(state: &mut Numbers, (mask, signal, early): (u32, u8, bool), times: u64) -> u64 {
+fn library_repeat(state: &Numbers, (mask, signal, early): (u32, u8, bool), times: u64) -> u64 {
     // SAFETY: the pointer is good for the length given with it.
-    unsafe { tollsalmon_bench_ticks(state.as_mut_ptr(), state.len(), mask, signal, early.into(), times) }
+    unsafe { tollsalmon_bench_ticks(state.as_ptr(), state.len(), mask, signal, early.into(), times) }
 }
 
 fn library_run(state: &mut Numbers, records: &[u8], answers: &mut [u8]) -> u64 {
