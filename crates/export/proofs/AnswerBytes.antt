@@ -1,14 +1,12 @@
 -- Laws of the ticks' answers as bytes.
 -- Assumes nothing.
 use mathlib.Core.Path.{_≡_, refl, sym, ap, _∙_}
-use mathlib.Core.Bool.{Bool, true, false, cond}
 use mathlib.Core.List.{List, [], _∷_, _++_}
-use Prim.Native.Nat.{ℕ, zero, suc, _+_, _-_, _*_, _/_, _%_, _≤_, _<_, min}
+use Prim.Native.Nat.{ℕ, _+_, _*_, _/_, _%_, _≤_, _<_}
 use native.Mathlib.Nat.{lt-irrefl}
 use native.Mathlib.Numerals.{add-one}
 use native.Mathlib.Omega.{arith}
-use borrow.Author.Tests.{lt-ltb, ne-eqb}
-use lib.Dec.{eqb}
+use borrow.Author.Tests.{lt-ltb}
 use lib.ListN.{length, take, drop}
 use lib.Seq.{sets, sets-eq}
 use Rattle.least.specs.Lists.{flat}
@@ -18,18 +16,14 @@ use Rattle.refusals.specs.declared.Refusal.{Refusal}
 use Rattle.plan.specs.Numbers.{bytesOf}
 use Rattle.plan.specs.Bodies.{tickAt, recordOf}
 use Rattle.plan.specs.declared.Tick.{Tick}
-use Rattle.plan.specs.declared.Recorded.{Recorded}
 use Rattle.plan.specs.declared.Recorded.the-variants.{Record, Missing}
 use Rattle.plan.proofs.Puts.{sets-then}
 use Rattle.machine.specs.TickRule.{stepOf}
-use Rattle.machine.specs.declared.Ran.{Ran}
-use Rattle.machine.specs.declared.Mark.{Mark}
 use Rattle.machine.specs.declared.Taken.{Taken}
 use Rattle.machine.specs.declared.Answer.{Answer}
 use Rattle.machine.specs.declared.Machine.{Machine}
 use Rattle.machine.specs.declared.Stepped.{Stepped}
-use Rattle.export.specs.State.{readable, machineIn, stateOf}
-use Rattle.export.specs.Ticks.{whoOf, taskOf, markOf, bitOf, saidOf, answerBytes, stepBy, machineAfter, answerTo, ticksTaken, stateAfter, answersAfter}
+use Rattle.export.specs.Ticks.{whoOf, taskOf, markOf, bitOf, saidOf, answerBytes, stepBy, machineAfter, answerTo}
 
 -- ## One answer
 

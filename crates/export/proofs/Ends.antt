@@ -1,15 +1,13 @@
 -- Each way out of a start and of a run of ticks.
 -- Assumes nothing.
 use mathlib.Core.Path.{_≡_, refl, sym, ap, _∙_}
-use mathlib.Core.Bool.{Bool, true, false, cond}
-use mathlib.Core.List.{List, [], _++_}
-use Prim.Native.Nat.{ℕ, _+_, _*_, _/_, _≤_, _<_, min}
-use native.Mathlib.Omega.{arith}
+use mathlib.Core.Bool.{Bool, true, false}
+use mathlib.Core.List.{List, _++_}
+use Prim.Native.Nat.{ℕ, _*_, _/_, _≤_, _<_, min}
 use borrow.Author.Tests.{lt-ltb, le-ltb, ne-eqb}
 use lib.ListN.{length, drop}
 use Rattle.least.specs.Lists.{flat}
-use Rattle.equations.specs.declared.Answer.{Answer}
-use Rattle.start.specs.Start.{startAnswer, startOf}
+use Rattle.start.specs.Start.{startOf}
 use Rattle.start.specs.declared.Started.{Started}
 use Rattle.machine.specs.declared.Machine.{Machine}
 use Rattle.export.specs.Numbers.{numberIn, placeIn}

@@ -1,10 +1,10 @@
 -- Laws of a machine as 258 numbers.
 -- Assumes nothing.
 use mathlib.Core.Path.{_≡_, refl, sym, ap, _∙_}
-use mathlib.Core.Bool.{Bool, true, false, cond, _||_}
+use mathlib.Core.Bool.{Bool, true, false, cond}
 use mathlib.Core.List.{List, [], _∷_, _++_, append-nil}
 use mathlib.Core.Option.{Option, none, some}
-use Prim.Native.Nat.{ℕ, zero, suc, _+_, _-_, _*_, _≤_, _<_}
+use Prim.Native.Nat.{ℕ, suc, _+_, _-_, _*_, _≤_, _<_}
 use native.Mathlib.Nat.{lt-irrefl}
 use native.Mathlib.Omega.{arith}
 use borrow.Author.Tests.{lt-ltb, le-ltb, ltb-false, leb-false}
@@ -14,15 +14,13 @@ use lib.Seq.{sets-eq}
 use Rattle.least.specs.Search.{firstWhere}
 use Rattle.least.specs.Lists.{listOf, flat}
 use Rattle.least.proofs.Where.{true-false, where-none}
-use Rattle.machine.specs.Rows.{noRow}
+use Rattle.machine.specs.Rows.{noRow, mapFrom}
 use Rattle.machine.specs.Fresh.{freshRows, freshAt}
-use Rattle.machine.specs.Rows.{mapFrom}
 use Rattle.machine.specs.declared.Stage.{Stage}
 use Rattle.machine.specs.declared.Row.{Row}
 use Rattle.machine.specs.declared.Machine.{Machine}
 use Rattle.plan.proofs.Tests.{or-inv}
 use Rattle.export.specs.State.{placeNumbers, stateOf, stageIn, numberIn, rowIn, machineIn, unreadable, isNone, readable, readOf}
-use Rattle.export.specs.declared.state.Reading.{Reading}
 
 -- ## To numbers
 

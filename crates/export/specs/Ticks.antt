@@ -3,9 +3,9 @@
 -- Assumes nothing.
 use mathlib.Core.Bool.{Bool, true, false, cond}
 use mathlib.Core.List.{List, [], _∷_, _++_}
-use Prim.Native.Nat.{ℕ, zero, suc, _+_, _*_, _/_, _%_, min}
+use Prim.Native.Nat.{ℕ, zero, suc, _*_, _/_, _%_, min}
 use lib.Dec.{eqb}
-use lib.ListN.{length, getD, drop}
+use lib.ListN.{drop}
 use Rattle.least.specs.Lists.{flat}
 use Rattle.refusals.specs.Refusals.{numberOf, placeOf}
 use Rattle.plan.specs.Numbers.{bytesOf}

@@ -3,11 +3,6 @@ use Rattle.export.specs.Numbers.{numberIn, placeIn}
 use borrow.Author.Needs.{needs}
 use Rattle.export.proofs.tollsalmon_analyse.Statement.{statement}
 use Rattle.export.proofs.tollsalmon_analyse.Tie as tie
-use Rattle.export.proofs.tollsalmon_analyse.Reads as reads
-use Rattle.export.proofs.tollsalmon_analyse.Lts as lts
-use Rattle.analysis.proofs.analyse.Reads as analyse-reads
-use Rattle.export.proofs.answers.number_in.Reads as number-in-reads
-use Rattle.export.proofs.answers.place_in.Reads as place-in-reads
 
 -- src/lib.rt:27:9
 analyse-requires : tie.Need-analyse-requires

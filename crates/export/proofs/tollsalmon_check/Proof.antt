@@ -8,11 +8,6 @@ use Rattle.export.proofs.FileParts.{accepts, refuses}
 use borrow.Author.Needs.{needs}
 use Rattle.export.proofs.tollsalmon_check.Statement.{statement}
 use Rattle.export.proofs.tollsalmon_check.Tie as tie
-use Rattle.export.proofs.tollsalmon_check.Reads as reads
-use Rattle.export.proofs.tollsalmon_check.Lts as lts
-use Rattle.plan.proofs.reader.check.Reads as check-reads
-use Rattle.refusals.proofs.Refusal.number.Reads as number-reads
-use Rattle.refusals.proofs.Refusal.place.Reads as place-reads
 
 -- src/lib.rt:79:11
 check-requires : tie.Need-check-requires

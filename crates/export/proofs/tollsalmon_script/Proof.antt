@@ -6,10 +6,6 @@ use Rattle.export.proofs.FileParts.{part-short, part-fits}
 use borrow.Author.Needs.{needs}
 use Rattle.export.proofs.tollsalmon_script.Statement.{statement}
 use Rattle.export.proofs.tollsalmon_script.Tie as tie
-use Rattle.export.proofs.tollsalmon_script.Reads as reads
-use Rattle.export.proofs.tollsalmon_script.Lts as lts
-use Rattle.export.proofs.files.copy.Reads as copy-reads
-use Rattle.plan.proofs.reader.script_of.Reads as script-of-reads
 
 -- src/lib.rt:108:9
 script-of-requires : tie.Need-script-of-requires

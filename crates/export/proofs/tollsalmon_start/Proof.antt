@@ -3,12 +3,6 @@ use Rattle.export.proofs.Ends.{start-short, start-done}
 use borrow.Author.Needs.{needs}
 use Rattle.export.proofs.tollsalmon_start.Statement.{statement}
 use Rattle.export.proofs.tollsalmon_start.Tie as tie
-use Rattle.export.proofs.tollsalmon_start.Reads as reads
-use Rattle.export.proofs.tollsalmon_start.Lts as lts
-use Rattle.export.proofs.answers.number_in.Reads as number-in-reads
-use Rattle.export.proofs.answers.place_in.Reads as place-in-reads
-use Rattle.export.proofs.state.put.Reads as put-reads
-use Rattle.start.proofs.start.Reads as start-reads
 
 -- src/lib.rt:42:9
 returns : tie.Need-returns

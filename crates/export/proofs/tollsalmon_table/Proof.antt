@@ -5,10 +5,6 @@ use Rattle.export.proofs.FileParts.{rows-fours, table-front, table-leng
 use borrow.Author.Needs.{needs}
 use Rattle.export.proofs.tollsalmon_table.Statement.{statement}
 use Rattle.export.proofs.tollsalmon_table.Tie as tie
-use Rattle.export.proofs.tollsalmon_table.Reads as reads
-use Rattle.export.proofs.tollsalmon_table.Lts as lts
-use Rattle.plan.proofs.bodies.table_of.Reads as table-of-reads
-use Rattle.plan.proofs.reader.rows_of.Reads as rows-of-reads
 
 -- src/lib.rt:97:9
 rows-of-requires : tie.Need-rows-of-requires

@@ -1,4 +1,3 @@
-use mathlib.Core.Path.{_≡_, refl, sym, ap, _∙_}
 use denote.Ref.{now}
 use native.Mathlib.Omega.{arith}
 use lib.ListN.{length}
@@ -8,12 +7,6 @@ use Rattle.export.proofs.Ends.{read-says, read-machine, ticks-unread, t
 use borrow.Author.Needs.{needs}
 use Rattle.export.proofs.tollsalmon_ticks.Statement.{statement}
 use Rattle.export.proofs.tollsalmon_ticks.Tie as tie
-use Rattle.export.proofs.tollsalmon_ticks.Reads as reads
-use Rattle.export.proofs.tollsalmon_ticks.Lts as lts
-use Rattle.export.proofs.state.put.Reads as put-reads
-use Rattle.export.proofs.state.read.Reads as read-reads
-use Rattle.export.proofs.ticks.how_many.Reads as how-many-reads
-use Rattle.export.proofs.ticks.run.Reads as run-reads
 
 -- src/lib.rt:59:9
 read-requires : tie.Need-read-requires

@@ -9,11 +9,6 @@ use Rattle.export.proofs.FileParts.{writes, writes-not}
 use borrow.Author.Needs.{needs}
 use Rattle.export.proofs.tollsalmon_write.Statement.{statement}
 use Rattle.export.proofs.tollsalmon_write.Tie as tie
-use Rattle.export.proofs.tollsalmon_write.Reads as reads
-use Rattle.export.proofs.tollsalmon_write.Lts as lts
-use Rattle.plan.proofs.writer.write.Reads as write-reads
-use Rattle.refusals.proofs.Refusal.number.Reads as number-reads
-use Rattle.refusals.proofs.Refusal.place.Reads as place-reads
 
 -- src/lib.rt:133:11
 write-requires : tie.Need-write-requires

@@ -1,5 +1,5 @@
 use mathlib.Core.Path.{_≡_, refl, ap, _∙_}
-use Prim.Native.Nat.{ℕ, _+_, _-_, _*_, _≤_}
+use Prim.Native.Nat.{_-_, _*_, _≤_}
 use native.Mathlib.Omega.{arith}
 use Rattle.least.specs.Sums.{sum}
 use Rattle.pace.specs.Pace.{machineAfter, ticksSum}
@@ -7,10 +7,6 @@ use Rattle.pace.proofs.Sums.{machine-more, sum-more}
 use borrow.Author.Needs.{needs}
 use Rattle.pace.proofs.run.Statement.{statement}
 use Rattle.pace.proofs.run.Tie as tie
-use Rattle.pace.proofs.run.Reads as reads
-use Rattle.pace.proofs.run.Lts as lts
-use Rattle.machine.proofs.Machine.step.Reads as step-reads
-use Rattle.pace.proofs.said_sum.Reads as said-sum-reads
 
 abbrev Inv-loop : tie.InvT-loop
 Inv-loop mask signal early times at₀ total₀ i₀ at total i =

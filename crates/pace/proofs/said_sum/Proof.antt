@@ -4,10 +4,6 @@ use Rattle.pace.specs.Pace.{saidSum}
 use borrow.Author.Needs.{needs}
 use Rattle.pace.proofs.said_sum.Statement.{statement}
 use Rattle.pace.proofs.said_sum.Tie as tie
-use Rattle.pace.proofs.said_sum.Reads as reads
-use Rattle.pace.proofs.said_sum.Lts as lts
-use Rattle.pace.proofs.taken_sum.Reads as taken-sum-reads
-use Rattle.refusals.proofs.Refusal.number.Reads as number-reads
 
 -- src/lib.rt:28:23
 enum-known-a : tie.Need-enum-known-a

@@ -1,15 +1,10 @@
 use denote.Ref.{now}
 use borrow.Author.Tests.{not-true, not-false}
-use native.Mathlib.Omega.{arith}
 use Rattle.export.proofs.Ends.{read-says, read-machine}
 use Rattle.pace.proofs.Sums.{pace-unread, pace-many, pace-is}
 use borrow.Author.Needs.{needs}
 use Rattle.pace.proofs.tollsalmon_bench_ticks.Statement.{statement}
 use Rattle.pace.proofs.tollsalmon_bench_ticks.Tie as tie
-use Rattle.pace.proofs.tollsalmon_bench_ticks.Reads as reads
-use Rattle.pace.proofs.tollsalmon_bench_ticks.Lts as lts
-use Rattle.export.proofs.state.read.Reads as read-reads
-use Rattle.pace.proofs.run.Reads as run-reads
 
 -- src/lib.rt:54:9
 read-requires : tie.Need-read-requires

@@ -1,6 +1,6 @@
 use mathlib.Core.Path.{_≡_, refl, _∙_}
 use denote.Ref.{now}
-use Prim.Native.Nat.{_+_, _-_, _≤_}
+use Prim.Native.Nat.{_-_, _≤_}
 use native.Mathlib.Omega.{arith}
 use lib.ListN.{length, getD, take, length-set}
 use lib.Seq.{sets}
@@ -8,8 +8,6 @@ use Rattle.export.proofs.FileParts.{copy-more, copied}
 use borrow.Author.Needs.{needs}
 use Rattle.export.proofs.files.copy.Statement.{statement}
 use Rattle.export.proofs.files.copy.Tie as tie
-use Rattle.export.proofs.files.copy.Reads as reads
-use Rattle.export.proofs.files.copy.Lts as lts
 
 abbrev Inv-loop : tie.InvT-loop
 Inv-loop part lent₀ n i₀ lent i = (i ≤ n) × (n ≡ length part) × (lent ≡ sets lent₀ 0 (take i part)) × (length lent ≡ length lent₀)

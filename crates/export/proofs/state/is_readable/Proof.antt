@@ -1,6 +1,6 @@
 use mathlib.Core.Path.{sym, _∙_}
 use denote.Ref.{now}
-use Prim.Native.Nat.{_-_, _≤_}
+use Prim.Native.Nat.{_-_}
 use native.Mathlib.Omega.{arith}
 use Rattle.least.proofs.Where.{Walk, walk-start, walk-next, walk-found, walk-none}
 use Rattle.export.specs.State.{unreadable}
@@ -8,9 +8,6 @@ use Rattle.export.proofs.States.{too-few, one-unreadable, all-readable}
 use borrow.Author.Needs.{needs}
 use Rattle.export.proofs.state.is_readable.Statement.{statement}
 use Rattle.export.proofs.state.is_readable.Tie as tie
-use Rattle.export.proofs.state.is_readable.Reads as reads
-use Rattle.export.proofs.state.is_readable.Lts as lts
-use Rattle.export.proofs.state.is_unreadable.Reads as is-unreadable-reads
 
 abbrev Inv-loop : tie.InvT-loop
 Inv-loop state i₀ i = Walk (unreadable state) 32 i

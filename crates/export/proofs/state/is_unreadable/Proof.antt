@@ -2,9 +2,6 @@ use Rattle.export.specs.State.{unreadable}
 use borrow.Author.Needs.{needs}
 use Rattle.export.proofs.state.is_unreadable.Statement.{statement}
 use Rattle.export.proofs.state.is_unreadable.Tie as tie
-use Rattle.export.proofs.state.is_unreadable.Reads as reads
-use Rattle.export.proofs.state.is_unreadable.Lts as lts
-use Rattle.export.proofs.state.number.Reads as number-reads
 
 -- src/state.rt:98:20
 number-requires : tie.Need-number-requires

@@ -1,7 +1,7 @@
-use mathlib.Core.Path.{_≡_, refl, ap, _∙_}
+use mathlib.Core.Path.{_≡_, ap, _∙_}
 use mathlib.Core.List.{List, _++_}
 use denote.Ref.{now}
-use Prim.Native.Nat.{ℕ, _+_, _-_, _≤_}
+use Prim.Native.Nat.{_-_, _≤_}
 use native.Mathlib.Omega.{arith}
 use lib.ListN.{set, replicate}
 use Rattle.least.specs.Lists.{listOf}
@@ -13,10 +13,6 @@ use Rattle.export.proofs.States.{can-read, places-all, machine-is}
 use borrow.Author.Needs.{needs}
 use Rattle.export.proofs.state.machine_in.Statement.{statement}
 use Rattle.export.proofs.state.machine_in.Tie as tie
-use Rattle.export.proofs.state.machine_in.Reads as reads
-use Rattle.export.proofs.state.machine_in.Lts as lts
-use Rattle.export.proofs.state.row_in.Reads as row-in-reads
-use Rattle.start.proofs.no_row.Reads as no-row-reads
 
 abbrev Inv-loop : tie.InvT-loop
 Inv-loop state rows₀ i₀ rows i = (i ≤ 32) × (rows ≡ listOf (rowIn state) i ++ replicate (32 - i) noRow)

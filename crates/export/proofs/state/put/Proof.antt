@@ -1,14 +1,11 @@
 use Rattle.export.proofs.States.{put-all, length-two}
-use mathlib.Core.Path.{_≡_, _∙_}
+use mathlib.Core.Path.{_∙_}
 use denote.Ref.{now}
 use native.Mathlib.Omega.{arith}
 use lib.ListN.{length-set}
 use borrow.Author.Needs.{needs}
 use Rattle.export.proofs.state.put.Statement.{statement}
 use Rattle.export.proofs.state.put.Tie as tie
-use Rattle.export.proofs.state.put.Reads as reads
-use Rattle.export.proofs.state.put.Lts as lts
-use Rattle.export.proofs.state.put_rows.Reads as put-rows-reads
 
 -- src/state.rt:79:5
 slice-write-state : tie.Need-slice-write-state

@@ -5,11 +5,6 @@ use lib.ListN.{length-set}
 use borrow.Author.Needs.{needs}
 use Rattle.export.proofs.state.put_row.Statement.{statement}
 use Rattle.export.proofs.state.put_row.Tie as tie
-use Rattle.export.proofs.state.put_row.Reads as reads
-use Rattle.export.proofs.state.put_row.Lts as lts
-use Rattle.export.proofs.state.arrival_number.Reads as arrival-number-reads
-use Rattle.export.proofs.state.stage_number.Reads as stage-number-reads
-use Rattle.export.proofs.state.ticks_number.Reads as ticks-number-reads
 
 -- src/state.rt:54:17
 cast-state : tie.Need-cast-state

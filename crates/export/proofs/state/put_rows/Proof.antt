@@ -12,9 +12,6 @@ use Rattle.export.proofs.States.{rows-none}
 use borrow.Author.Needs.{needs}
 use Rattle.export.proofs.state.put_rows.Statement.{statement}
 use Rattle.export.proofs.state.put_rows.Tie as tie
-use Rattle.export.proofs.state.put_rows.Reads as reads
-use Rattle.export.proofs.state.put_rows.Lts as lts
-use Rattle.export.proofs.state.put_row.Reads as put-row-reads
 
 abbrev Inv-loop : tie.InvT-loop
 Inv-loop state₀ rows i₀ state i = (i ≤ 32) × (state ≡ take 2 state₀ ++ flat (placeNumbers rows) i ++ drop (2 + 8 * i) state₀) × (length state ≡ length state₀)

@@ -4,11 +4,6 @@ use Rattle.export.proofs.States.{read-ok, read-not}
 use borrow.Author.Needs.{needs}
 use Rattle.export.proofs.state.read.Statement.{statement}
 use Rattle.export.proofs.state.read.Tie as tie
-use Rattle.export.proofs.state.read.Reads as reads
-use Rattle.export.proofs.state.read.Lts as lts
-use Rattle.export.proofs.state.is_readable.Reads as is-readable-reads
-use Rattle.export.proofs.state.machine_in.Reads as machine-in-reads
-use Rattle.start.proofs.no_row.Reads as no-row-reads
 
 -- src/state.rt:178:8
 is-readable-requires : tie.Need-is-readable-requires

@@ -4,10 +4,6 @@ use Rattle.export.proofs.States.{fields, row-is}
 use borrow.Author.Needs.{needs}
 use Rattle.export.proofs.state.row_in.Statement.{statement}
 use Rattle.export.proofs.state.row_in.Tie as tie
-use Rattle.export.proofs.state.row_in.Reads as reads
-use Rattle.export.proofs.state.row_in.Lts as lts
-use Rattle.export.proofs.state.number.Reads as number-reads
-use Rattle.export.proofs.state.stage_in.Reads as stage-in-reads
 
 -- src/state.rt:141:26
 number-requires : tie.Need-number-requires

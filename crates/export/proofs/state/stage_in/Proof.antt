@@ -1,8 +1,6 @@
 use borrow.Author.Tests.{eq-eqb, ne-eqb}
 use Rattle.export.proofs.state.stage_in.Statement.{statement}
 use Rattle.export.proofs.state.stage_in.Tie as tie
-use Rattle.export.proofs.state.stage_in.Reads as reads
-use Rattle.export.proofs.state.stage_in.Lts as lts
 
 -- src/state.rt:125:9
 returns : tie.Need-returns

@@ -3,10 +3,6 @@ use Rattle.export.proofs.AnswerBytes.{answer-put}
 use borrow.Author.Needs.{needs}
 use Rattle.export.proofs.ticks.put_answer.Statement.{statement}
 use Rattle.export.proofs.ticks.put_answer.Tie as tie
-use Rattle.export.proofs.ticks.put_answer.Reads as reads
-use Rattle.export.proofs.ticks.put_answer.Lts as lts
-use Rattle.export.proofs.ticks.put_number.Reads as put-number-reads
-use Rattle.export.proofs.ticks.put_said.Reads as put-said-reads
 
 -- src/ticks.rt:114:5
 put-number-requires : tie.Need-put-number-requires

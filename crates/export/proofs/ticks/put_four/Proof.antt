@@ -5,8 +5,6 @@ use Rattle.plan.proofs.Puts.{sets-four}
 use borrow.Author.Needs.{needs}
 use Rattle.export.proofs.ticks.put_four.Statement.{statement}
 use Rattle.export.proofs.ticks.put_four.Tie as tie
-use Rattle.export.proofs.ticks.put_four.Reads as reads
-use Rattle.export.proofs.ticks.put_four.Lts as lts
 
 -- src/ticks.rt:72:5
 slice-write-answers : tie.Need-slice-write-answers

@@ -5,8 +5,6 @@ use Rattle.plan.proofs.Puts.{sets-four}
 use borrow.Author.Needs.{needs}
 use Rattle.export.proofs.ticks.put_number.Statement.{statement}
 use Rattle.export.proofs.ticks.put_number.Tie as tie
-use Rattle.export.proofs.ticks.put_number.Reads as reads
-use Rattle.export.proofs.ticks.put_number.Lts as lts
 
 -- src/ticks.rt:61:19
 cast-answers : tie.Need-cast-answers

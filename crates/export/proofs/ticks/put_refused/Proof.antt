@@ -3,12 +3,6 @@ use Rattle.export.proofs.AnswerBytes.{said-refused}
 use borrow.Author.Needs.{needs}
 use Rattle.export.proofs.ticks.put_refused.Statement.{statement}
 use Rattle.export.proofs.ticks.put_refused.Tie as tie
-use Rattle.export.proofs.ticks.put_refused.Reads as reads
-use Rattle.export.proofs.ticks.put_refused.Lts as lts
-use Rattle.export.proofs.ticks.put_four.Reads as put-four-reads
-use Rattle.export.proofs.ticks.put_number.Reads as put-number-reads
-use Rattle.refusals.proofs.Refusal.number.Reads as number-reads
-use Rattle.refusals.proofs.Refusal.place.Reads as place-reads
 
 -- src/ticks.rt:94:29
 place-requires : tie.Need-place-requires

@@ -6,10 +6,6 @@ use Rattle.export.specs.Ticks.{saidOf}
 use borrow.Author.Needs.{needs}
 use Rattle.export.proofs.ticks.put_said.Statement.{statement}
 use Rattle.export.proofs.ticks.put_said.Tie as tie
-use Rattle.export.proofs.ticks.put_said.Reads as reads
-use Rattle.export.proofs.ticks.put_said.Lts as lts
-use Rattle.export.proofs.ticks.put_refused.Reads as put-refused-reads
-use Rattle.export.proofs.ticks.put_taken.Reads as put-taken-reads
 
 -- src/ticks.rt:104:23
 enum-known-a : tie.Need-enum-known-a

@@ -3,14 +3,6 @@ use Rattle.export.proofs.AnswerBytes.{said-taken}
 use borrow.Author.Needs.{needs}
 use Rattle.export.proofs.ticks.put_taken.Statement.{statement}
 use Rattle.export.proofs.ticks.put_taken.Tie as tie
-use Rattle.export.proofs.ticks.put_taken.Reads as reads
-use Rattle.export.proofs.ticks.put_taken.Lts as lts
-use Rattle.export.proofs.ticks.bit_of.Reads as bit-of-reads
-use Rattle.export.proofs.ticks.mark_of.Reads as mark-of-reads
-use Rattle.export.proofs.ticks.put_four.Reads as put-four-reads
-use Rattle.export.proofs.ticks.put_number.Reads as put-number-reads
-use Rattle.export.proofs.ticks.task_of.Reads as task-of-reads
-use Rattle.export.proofs.ticks.who_of.Reads as who-of-reads
 
 -- src/ticks.rt:85:5
 put-number-requires : tie.Need-put-number-requires

@@ -1,7 +1,7 @@
 use mathlib.Core.Path.{_≡_, refl, ap, _∙_}
 use mathlib.Core.List.{_++_}
 use denote.Ref.{now}
-use Prim.Native.Nat.{ℕ, _+_, _-_, _*_, _≤_}
+use Prim.Native.Nat.{ℕ, _-_, _*_, _≤_}
 use native.Mathlib.Omega.{arith}
 use lib.ListN.{length, drop}
 use Rattle.least.specs.Lists.{flat}
@@ -10,11 +10,6 @@ use Rattle.export.proofs.AnswerBytes.{machine-more, answer-more}
 use borrow.Author.Needs.{needs}
 use Rattle.export.proofs.ticks.run.Statement.{statement}
 use Rattle.export.proofs.ticks.run.Tie as tie
-use Rattle.export.proofs.ticks.run.Reads as reads
-use Rattle.export.proofs.ticks.run.Lts as lts
-use Rattle.export.proofs.ticks.put_answer.Reads as put-answer-reads
-use Rattle.export.proofs.ticks.tick_of.Reads as tick-of-reads
-use Rattle.machine.proofs.Machine.step.Reads as step-reads
 
 abbrev Inv-loop : tie.InvT-loop
 Inv-loop records answers₀ n at₀ i₀ answers at i =

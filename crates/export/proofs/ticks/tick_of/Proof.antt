@@ -4,9 +4,6 @@ use Rattle.export.proofs.AnswerBytes.{tick-there, not-missing}
 use borrow.Author.Needs.{needs}
 use Rattle.export.proofs.ticks.tick_of.Statement.{statement}
 use Rattle.export.proofs.ticks.tick_of.Tie as tie
-use Rattle.export.proofs.ticks.tick_of.Reads as reads
-use Rattle.export.proofs.ticks.tick_of.Lts as lts
-use Rattle.plan.proofs.bodies.record.Reads as record-reads
 
 -- src/ticks.rt:123:11
 record-requires : tie.Need-record-requires
