@@ -6,10 +6,12 @@ pub mod ticks;
 
 use plan::Answer;
 use plan::Writing;
+use report::Reported;
 ghost use mathlib.Core.Path.{_≡_};
 ghost use Prim.Native.Nat.{ℕ, _/_};
 ghost use lib.ListN.{length, drop};
 ghost use Rattle.equations.specs.Analysis.{analysis, resultsAfter};
+ghost use Rattle.report.specs.Report.{textOf};
 ghost use Rattle.plan.specs.PlanFile.{readRefusal};
 ghost use Rattle.plan.specs.Writer.{planFile, writeRefusal, afterWriting};
 ghost use Rattle.export.specs.Files.{refusalNumber, refusalPlace, toFront, tableIn, scriptIn};
@@ -140,5 +142,17 @@ pub extern "C" fn tollsalmon_write(
             *place = r.place() as u64;
             r.number()
         }
+    }
+}
+
+// The whole text of a plan's run to the front of lent bytes, where they are enough: how many bytes it has.
+#[no_mangle]
+pub extern "C" fn tollsalmon_report(file: &[u8], text: &mut [u8]) -> u64
+    ensures answers { λ r. ⌜ r ≡ length (textOf (now (file .entry))) ⌝ }
+    ensures leaves { λ _. ⌜ now (text .exit) ≡ toFront (textOf (now (file .entry))) (now (text .entry)) ⌝ }
+{
+    match report::report(file, text) {
+        Reported::Written(n) => n as u64,
+        Reported::TooShort(n) => n as u64,
     }
 }

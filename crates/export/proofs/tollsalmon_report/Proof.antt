@@ -1,0 +1,52 @@
+use mathlib.Core.Path.{sym, ap, _∙_}
+use Rattle.export.proofs.Texts.{lengthSaid, length-said, text-left}
+use borrow.Author.Needs.{needs}
+use Rattle.export.proofs.tollsalmon_report.Statement.{statement}
+use Rattle.export.proofs.tollsalmon_report.Tie as tie
+use Rattle.export.proofs.tollsalmon_report.Reads as reads
+use Rattle.export.proofs.tollsalmon_report.Lts as lts
+use Rattle.report.proofs.report.Reads as report-reads
+
+-- src/lib.rt:154:11
+report-requires : tie.Need-report-requires
+report-requires c κs = search needs
+
+-- src/lib.rt:155:27
+enum-known-n : tie.Need-enum-known-n
+enum-known-n c = search needs
+
+-- src/lib.rt:156:28
+enum-known-n-2 : tie.Need-enum-known-n-2
+enum-known-n-2 c = search needs
+
+-- src/lib.rt:149:1
+same-length : tie.Need-same-length
+same-length c = search needs
+
+-- src/lib.rt:149:1
+returns : tie.Need-returns
+returns c =
+    let p = c .before .before .before .before .before .report .ensures in
+    (sym (ap lengthSaid (c .before .n .given .1)) ∙ length-said _ _ _ _ p, text-left _ _ _ _ p)
+
+-- src/lib.rt:149:1
+same-length-2 : tie.Need-same-length-2
+same-length-2 c = search needs
+
+-- src/lib.rt:149:1
+returns-2 : tie.Need-returns-2
+returns-2 c =
+    let p = c .before .before .before .before .before .report .ensures in
+    (sym (ap lengthSaid (c .before .n2 .given .1)) ∙ length-said _ _ _ _ p, text-left _ _ _ _ p)
+
+pub tollsalmon-report-spec : {M : Type 1} → statement M
+tollsalmon-report-spec =
+    tie.close
+    (tie.spec
+    report-requires
+    enum-known-n
+    enum-known-n-2
+    same-length
+    returns
+    same-length-2
+    returns-2)
