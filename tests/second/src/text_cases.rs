@@ -219,5 +219,5 @@ fn every_job_has_one_output_or_is_open() {
 
 fn record_of(bytes: &[u8]) -> Record {
     let mask = u32::from_le_bytes([bytes[0], bytes[1], bytes[2], bytes[3]]);
-    (mask, bytes[4], u8::from(bytes[5] != 0))
+    (mask, bytes[4], u8::from(bytes[5] == 1))
 }

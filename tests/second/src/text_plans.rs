@@ -96,7 +96,7 @@ fn plan(table: &[u32], script: &[u8]) -> Vec<u8> {
 fn records(dice: &mut Dice, table: &[u32], ticks: u64) -> Vec<u8> {
     let (mut records, _) = script(dice, start(table).0, ticks);
     for record in records.chunks_exact_mut(RECORD) {
-        record[5] = u8::from(record[5] != 0);
+        record[5] = u8::from(record[5] == 1);
         record[6..].fill(0);
     }
     records

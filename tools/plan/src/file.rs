@@ -21,7 +21,7 @@ impl fmt::Display for Refusal {
     fn fmt(&self, to: &mut fmt::Formatter) -> fmt::Result {
         let Refusal { number, place } = self;
         let words = match (number, place) {
-            (13, _) => format!("the file has {place} bytes, and a plan has 4 to 65,536"),
+            (13, _) => "a plan file has 4 to 65,536 bytes".to_string(),
             (14, 0) => "it doesn't begin with 1 or 2 sections, or ends within its contents".to_string(),
             (14, _) => format!("entry {place} of the contents has the wrong kind"),
             (15, _) => format!("the body of entry {place} doesn't lie where it should"),
