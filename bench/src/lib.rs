@@ -6,6 +6,7 @@ pub mod machine;
 pub mod machine_numbers;
 pub mod planner_tables;
 pub mod rounds;
+pub mod text;
 
 #[path = "../../tests/second/src/dice.rs"]
 pub mod dice;
