@@ -107,11 +107,6 @@ impl Answer {
 impl Machine {
     pub const NONE: Machine = Machine { count: 0, clock: 0, rows: [EMPTY; PLACES] };
 
-    /// Inlined or not, as the compiler decides.
-    pub fn step(self, mask: u32, signal: u8, early: bool) -> Stepped {
-        self.step_inlined(mask, signal, early)
-    }
-
     #[inline(never)]
     pub fn step_called(self, mask: u32, signal: u8, early: bool) -> Stepped {
         self.step_inlined(mask, signal, early)

@@ -1,5 +1,5 @@
 //! The plain Rust machine behind the same calls as the library's: a machine as 258 numbers, tick
-//! records and answers as bytes. Each call is there three times, by how the step is inlined.
+//! records and answers as bytes. Each call is there twice, by how the step is inlined.
 
 use crate::machine::{Machine, Row, Stage, Stepped};
 use std::hint::black_box;
@@ -104,11 +104,6 @@ pub type Repeat = fn(&Numbers, (u32, u8, bool), u64) -> u64;
 pub type Run = fn(&mut Numbers, &[u8], &mut [u8]) -> u64;
 
 #[inline(never)]
-pub fn repeat_as_decided(state: &Numbers, tick: (u32, u8, bool), times: u64) -> u64 {
-    repeat(state, tick, times, Machine::step)
-}
-
-#[inline(never)]
 pub fn repeat_called(state: &Numbers, tick: (u32, u8, bool), times: u64) -> u64 {
     repeat(state, tick, times, Machine::step_called)
 }
@@ -116,11 +111,6 @@ pub fn repeat_called(state: &Numbers, tick: (u32, u8, bool), times: u64) -> u64 
 #[inline(never)]
 pub fn repeat_inlined(state: &Numbers, tick: (u32, u8, bool), times: u64) -> u64 {
     repeat(state, tick, times, |machine, mask, signal, early| machine.step_inlined(mask, signal, early))
-}
-
-#[inline(never)]
-pub fn run_as_decided(state: &mut Numbers, records: &[u8], answers: &mut [u8]) -> u64 {
-    run(state, records, answers, Machine::step)
 }
 
 #[inline(never)]

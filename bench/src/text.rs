@@ -61,7 +61,7 @@ fn put_ticks(text: &mut Vec<u8>, mut machine: Machine, script: &[u8]) {
     for record in script.chunks_exact(RECORD) {
         let mask = number(record, 0) as u32;
         let clock = machine.clock;
-        let stepped = machine.step(mask, record[4], record[5] == 1);
+        let stepped = machine.step_inlined(mask, record[4], record[5] == 1);
         machine = stepped.machine;
         let answer = stepped.answer;
         let task = usize::from(answer.task_or_number);

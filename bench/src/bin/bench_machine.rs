@@ -1,6 +1,6 @@
 //! Time of a tick: the library's machine beside a plain Rust one of the same layout, by value, on
-//! the same machines and ticks. Whether the step is inlined into the loop matters, so the Rust one
-//! is measured as the compiler decides, never inlined, and always inlined.
+//! the same machines and ticks. Whether the step is inlined into the loop matters, so it is measured
+//! twice: with neither step inlined, as the library is used, and with both.
 
 use bench::machine::{Machine, Row, Stage};
 use bench::machine_numbers::*;
@@ -47,13 +47,6 @@ fn library_run(state: &mut Numbers, records: &[u8], answers: &mut [u8]) -> u64 {
     unsafe { tollsalmon_ticks(state.as_mut_ptr(), state.len(), records.as_ptr(), a, answers.as_mut_ptr(), b) }
 }
 
-/// How the Rust step is inlined, with its two calls.
-const RUST: [(&str, Repeat, Run); 3] = [
-    ("as decided", repeat_as_decided, run_as_decided),
-    ("never", repeat_called, run_called),
-    ("always", repeat_inlined, run_inlined),
-];
-
 /// Ticks to measure.
 enum Work {
     /// The same tick, with this mask, again and again.
@@ -72,43 +65,49 @@ fn main() {
     println!(
         "ns a tick (best of {ROUNDS} rounds of {TICKS} ticks), and library / Rust by best and by median"
     );
-    println!("The Rust step is inlined into its loop as the compiler decides, never, or always.");
-    print_head();
+    print_head("neither step inlined: records through tollsalmon_ticks");
     for rows in SIZES {
         for scenario in scenarios(rows) {
-            check(&scenario);
-            print!("{rows:>4}  {:<24}", scenario.name);
-            for (_, repeat, run) in RUST {
-                let (library, rust) = measure(&scenario, repeat, run);
-                print_pair(&library, &rust);
-            }
-            println!();
+            print_line(rows, &as_records(scenario), repeat_called, run_called);
+        }
+    }
+    print_head("both steps inlined: the same tick through tollsalmon_bench_ticks");
+    for rows in SIZES {
+        for scenario in scenarios(rows).into_iter().filter(|s| matches!(s.work, Work::Same(_))) {
+            print_line(rows, &scenario, repeat_inlined, run_inlined);
         }
     }
 }
 
-fn print_head() {
-    print!("{:<30}", "");
-    for (how, ..) in RUST {
-        print!(" |  Rust inlined: {how:<17}");
-    }
-    print!("\n{:<30}", "rows  ticks");
-    for _ in RUST {
-        print!(" | library    Rust   best  median");
-    }
-    println!();
+fn print_head(how: &str) {
+    println!("\n{how}");
+    println!("rows  ticks                     library    Rust   best  median");
 }
 
-fn print_pair(library: &Times, rust: &Times) {
+fn print_line(rows: usize, scenario: &Scenario, repeat: Repeat, run: Run) {
+    check(scenario, repeat, run);
+    let (library, rust) = measure(scenario, repeat, run);
     let a_tick = |time: Duration| time.as_secs_f64() * 1e9 / TICKS as f64;
     let ratio = |library: Duration, rust: Duration| library.as_secs_f64() / rust.as_secs_f64();
-    print!(
-        " | {:>7.1} {:>7.1} {:>6.2}  {:>6.2}",
+    println!(
+        "{rows:>4}  {:<24} {:>8.1} {:>7.1} {:>6.2}  {:>6.2}",
+        scenario.name,
         a_tick(library.best()),
         a_tick(rust.best()),
         ratio(library.best(), rust.best()),
         ratio(library.median(), rust.median()),
     );
+}
+
+/// The same tick again and again as records.
+fn as_records(scenario: Scenario) -> Scenario {
+    match scenario.work {
+        Work::Records(_) => scenario,
+        Work::Same(mask) => {
+            let records = u64::from(mask).to_le_bytes().repeat(TICKS);
+            Scenario { work: Work::Records(records), ..scenario }
+        }
+    }
 }
 
 // What is measured.
@@ -151,7 +150,7 @@ fn arrival_and_enforcement(rows: usize) -> Scenario {
     machine.rows[..rows].fill(row);
     let mut state = numbers(&machine);
     let until_it_repeats = records(rows, period, 4 * period as usize);
-    run_as_decided(&mut state, &until_it_repeats, &mut vec![0; 12 * 4 * period as usize]);
+    run_called(&mut state, &until_it_repeats, &mut vec![0; 12 * 4 * period as usize]);
     let name = if rows == 1 { "arrival, enforcement" } else { "arrival and enforcement" };
     Scenario { name, state, work: Work::Records(records(rows, period, TICKS)) }
 }
@@ -164,12 +163,10 @@ fn records(rows: usize, period: u32, number: usize) -> Vec<u8> {
 
 // How it is measured.
 
-/// Library and Rust must say the same, however the step is inlined, or their times mean nothing.
-fn check(scenario: &Scenario) {
+/// Library and Rust must say the same, or their times mean nothing.
+fn check(scenario: &Scenario, repeat: Repeat, run: Run) {
     let found = result(scenario, library_repeat, library_run);
-    for (how, repeat, run) in RUST {
-        assert!(found == result(scenario, repeat, run), "{}, {how}: different results", scenario.name);
-    }
+    assert!(found == result(scenario, repeat, run), "{}: different results", scenario.name);
 }
 
 fn result(scenario: &Scenario, repeat: Repeat, run: Run) -> (u64, Numbers, Vec<u8>) {
