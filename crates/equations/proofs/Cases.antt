@@ -13,7 +13,8 @@ use Rattle.least.proofs.Least.{repeated, repeated-right, seek-start}
 use Rattle.refusals.specs.declared.Refusal.the-variants.{NoActivePeriod}
 use Rattle.equations.specs.Hypertask.{B, demand, activeSide, activePeriod, releases, startDemand, startSide, start, jobResponse, worst, response, E}
 use Rattle.equations.specs.Guest.{begunByHypertask, begunByGuest, bound, below, F, windowSide, WA, WE, guest}
-use Rattle.equations.specs.Analysis.{stopAtRow, andThen, tableCheck, resultsCheck, rowByRow, hypertaskCheck, guestCheck, solved, analysis, resultsBy, resultsAfter}
+use Rattle.equations.specs.Analysis.{stopAtRow, andThen, tableCheck, resultsCheck, rowByRow}
+use Rattle.equations.specs.Analysis.{hypertaskCheck, guestCheck, solved, analysis, resultsBy, resultsAfter}
 use Rattle.equations.specs.Cases.{Right, cases}
 use Rattle.equations.specs.declared.Response.{Response}
 use Rattle.equations.specs.declared.Checked.the-variants.{Passed, Stopped}

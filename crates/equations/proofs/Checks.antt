@@ -18,7 +18,8 @@ use Rattle.refusals.specs.declared.Refusal.the-variants.{TableLength, FieldRang
 use Rattle.equations.specs.Table.{rows, T, D, Sound}
 use Rattle.equations.specs.Hypertask.{response}
 use Rattle.equations.specs.Guest.{guest}
-use Rattle.equations.specs.Analysis.{either, stopIf, stopAtField, stopAtDeadline, stopAtRow, badLength, badField, badDeadline, tableCheck, resultsCheck, rowByRow, hypertaskCheck, guestCheck, andThen, solved, analysis, resultsBy, resultsAfter}
+use Rattle.equations.specs.Analysis.{either, stopIf, stopAtField, stopAtDeadline, stopAtRow, badLength, badField, badDeadline, tableCheck}
+use Rattle.equations.specs.Analysis.{resultsCheck, rowByRow, hypertaskCheck, guestCheck, andThen, solved, analysis, resultsBy, resultsAfter}
 use Rattle.equations.specs.declared.Response.{Response}
 use Rattle.equations.specs.declared.Response.the-variants.{Is, Fails}
 use Rattle.equations.specs.declared.Checked.{Checked}
@@ -46,7 +47,8 @@ module _ (s : List ℕ) where
   length-bad : badLength s ≡ true → tableCheck s ≡ Stopped (TableLength (length s))
   unfolding tableCheck
   length-bad e =
-      ap (λ (b : Bool). stopIf b (TableLength (length s)) (stopAtField (firstWhere (badField s) 0 (length s)) (stopAtDeadline (firstWhere (badDeadline s) 0 (rows s)) Passed))) e
+      ap (λ (b : Bool). stopIf b (TableLength (length s)) (stopAtField (firstWhere (badField s) 0 (length s)) (stopAtDeadline (firstWhere
+      (badDeadline s) 0 (rows s)) Passed))) e
 
   pub too-short : length s < 4 → tableCheck s ≡ Stopped (TableLength (length s))
   too-short h = length-bad (rw (lt-ltb (length s) 4 h))
@@ -83,7 +85,8 @@ module _ (s : List ℕ) where
         some = a;
         few = b;
         low = λ k h. ltb-false _ _ (neither _ _ (where-none (badField s) (length s) 0 f k (omega arith) (omega arith)) .0);
-        high = λ k h. ltb-false _ _ (neither (ltb (getD s k 0) 1) (ltb 1000000 (getD s k 0)) (where-none (badField s) (length s) 0 f k (omega arith) (omega arith)) .1);
+        high = λ k h. ltb-false _ _ (neither (ltb (getD s k 0) 1) (ltb 1000000 (getD s k 0)) (where-none (badField s) (length s) 0 f k (omega arith)
+            (omega arith)) .1);
         within = λ j h. ltb-false _ _ (where-none (badDeadline s) (rows s) 0 g j (omega arith) (omega arith));
       }
 

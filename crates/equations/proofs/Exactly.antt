@@ -19,9 +19,11 @@ use Rattle.least.proofs.Least.{found, finds, none-found, least-unique, least-sa
 use Rattle.least.proofs.Sums.{up-least, up≥1, sum-mono}
 use Rattle.refusals.specs.declared.Refusal.{Refusal}
 use Rattle.equations.specs.Table.{rows, T, D, C, K, Sound}
-use Rattle.equations.specs.Hypertask.{B, demand, activeSide, activePeriod, releases, startDemand, startSide, start, responseFrom, jobResponse, larger, worst, response, valueOf, E}
+use Rattle.equations.specs.Hypertask.{B, demand, activeSide, activePeriod, releases, startDemand, startSide}
+use Rattle.equations.specs.Hypertask.{start, responseFrom, jobResponse, larger, worst, response, valueOf, E}
 use Rattle.equations.specs.Guest.{windowSide, WA, WE, guest}
-use Rattle.equations.specs.Analysis.{stopIf, stopAtField, stopAtDeadline, stopAtRow, badLength, badField, badDeadline, tableCheck, resultsCheck, rowByRow, hypertaskCheck, guestCheck, andThen, solved, analysis}
+use Rattle.equations.specs.Analysis.{stopIf, stopAtField, stopAtDeadline, stopAtRow, badLength, badField, badDeadline}
+use Rattle.equations.specs.Analysis.{tableCheck, resultsCheck, rowByRow, hypertaskCheck, guestCheck, andThen, solved, analysis}
 use Rattle.equations.specs.Solutions.{ActivePeriod, Start, Job, HypertaskResponse, GuestResponse, Schedulable}
 use Rattle.equations.specs.declared.Response.{Response}
 use Rattle.equations.specs.declared.Response.the-variants.{Is, Fails}
@@ -30,8 +32,10 @@ use Rattle.equations.specs.declared.Checked.the-variants.{Passed, Stoppe
 use Rattle.equations.specs.declared.Answer.{Answer}
 use Rattle.equations.specs.declared.Answer.the-variants.{Accepted, Refused}
 use Rattle.equations.proofs.Bounds.{T≥1, C≥1, K≥1, active≥1, active-never-falls, D≤}
-use Rattle.equations.proofs.Jobs.{larger-both, Responds, responds, response-is, response≤, job-some, offset-is, GuestResponds, guest-responds, guest-is, window-same}
-use Rattle.equations.proofs.Checks.{stopped-passed, refused-accepted, neither, field-fine, length-fine, table-fine, sound, results-fit, entered, accepted, Rowwise, rows-start, rows-next, rows-end}
+use Rattle.equations.proofs.Jobs.{larger-both, Responds, responds, response-is, response≤}
+use Rattle.equations.proofs.Jobs.{job-some, offset-is, GuestResponds, guest-responds, guest-is, window-same}
+use Rattle.equations.proofs.Checks.{stopped-passed, refused-accepted, neither, field-fine, length-fine, table-fine, sound}
+use Rattle.equations.proofs.Checks.{results-fit, entered, accepted, Rowwise, rows-start, rows-next, rows-end}
 
 -- ## None of w + K − (q − 1)·T is below zero
 
@@ -103,7 +107,8 @@ worst-says s i zero m e =
     record { each = λ q a b. absurd (lt-irrefl 0 (omega arith)); attained = λ h. absurd (lt-irrefl 0 (omega arith)) }
 worst-says s i (suc n) m e = larger-both (worst s i n) (jobResponse s i (suc n)) m (Worst s i (suc n) m) (one-more (worst-says s i n)) e
   where
-    one-more : ((x : ℕ) → worst s i n ≡ some x → Worst s i n x) → (x y : ℕ) → worst s i n ≡ some x → jobResponse s i (suc n) ≡ some y → m ≡ max x y → Worst s i (suc n) m
+    one-more : ((x : ℕ) → worst s i n ≡ some x → Worst s i n x) → (x y : ℕ) → worst s i n ≡ some x → jobResponse s i (suc n) ≡ some y → m ≡ max x y
+        → Worst s i (suc n) m
     one-more before x y p q mx =
         let w = before x p in
         record {
@@ -147,7 +152,8 @@ pub job-there : (s : List ℕ) (i q x : ℕ) → jobResponse s i q ≡ some x �
 unfolding jobResponse
 job-there s i q x e = by (start s i q) refl e
   where
-    by : (o : Option ℕ) → start s i q ≡ o → responseFrom (K s i) ((q - 1) * T s i) o ≡ some x → (w : ℕ) × (start s i q ≡ some w) × (x ≡ w + K s i - (q - 1) * T s i)
+    by : (o : Option ℕ) → start s i q ≡ o → responseFrom (K s i) ((q - 1) * T s i) o ≡ some x
+        → (w : ℕ) × (start s i q ≡ some w) × (x ≡ w + K s i - (q - 1) * T s i)
     by none a b = absurd (some-none x (sym b))
     by (some w) a b = (w, a, sym (some-inj _ _ b))
 

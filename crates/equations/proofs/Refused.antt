@@ -12,7 +12,8 @@ use Rattle.least.proofs.Where.{some-none}
 use Rattle.refusals.specs.declared.Refusal.{Refusal}
 use Rattle.refusals.specs.declared.Refusal.the-variants.{NoActivePeriod, StartTooLate, GuestFails}
 use Rattle.equations.specs.Table.{rows, T, D, C, K, Sound}
-use Rattle.equations.specs.Hypertask.{activeSide, activePeriod, startSide, start, responseFrom, jobResponse, larger, worst, worstOr6, activeOr5, response, E}
+use Rattle.equations.specs.Hypertask.{activeSide, activePeriod, startSide, start, responseFrom, jobResponse}
+use Rattle.equations.specs.Hypertask.{larger, worst, worstOr6, activeOr5, response, E}
 use Rattle.equations.specs.Guest.{windowSide, WA, WE, guestFrom, guest}
 use Rattle.equations.specs.Analysis.{stopAtRow, rowByRow, hypertaskCheck, guestCheck, andThen, solved}
 use Rattle.equations.specs.Solutions.{ActivePeriod, Job}

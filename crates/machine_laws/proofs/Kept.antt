@@ -15,7 +15,8 @@ use Rattle.machine.specs.declared.Row.{Row}
 use Rattle.machine.specs.declared.Machine.{Machine}
 use Rattle.machine.specs.Rows.{noRow, withStage, inMask, Found, at, none, first, orElse, howMany, isHyper, hasBegun, hasBudget}
 use Rattle.machine.specs.WellFormed.{fieldsFit, stageFits, rowFits, begunRow, isBlank, wellFormed}
-use Rattle.machine.specs.TickRule.{pastLast, tooSoon, whileHyper, refuseAt, Verdict, refused, accepted, verdict, enforced, begun, waiting, ready, chosen, ranFrom}
+use Rattle.machine.specs.TickRule.{pastLast, tooSoon, whileHyper, refuseAt, Verdict, refused, accepted}
+use Rattle.machine.specs.TickRule.{verdict, enforced, begun, waiting, ready, chosen, ranFrom}
 use Rattle.machine.specs.TickRule.{turned, ranOn, taken, stepBy, stepOf}
 use Rattle.machine.specs.OnePass.{misplaced, turnedRow}
 use Rattle.machine.proofs.Tests.{both, first-fails, fields-say, blank-never}

@@ -62,7 +62,8 @@ returns-3 c =
     let a = c .before .before .before .before .before .before .before .before .before .before in
     let s = now (a .args .table) in
     let m = length (now (a .args .results)) in
-    let e : analysis s m ≡ c .before .before .solve .result = entered s m (table-passes (c .before .before .before .before .before)) (results-fit s m (omega arith)) ∙ sym (c .before .before .solve .ensures .0) in
+    let e : analysis s m ≡ c .before .before .solve .result = entered s m (table-passes (c .before .before .before .before .before))
+    (results-fit s m (omega arith)) ∙ sym (c .before .before .solve .ensures .0) in
     (sym e, c .before .before .solve .ensures .1 ∙ results-by s (now (a .args .results)) _ e)
 
 pub analyse-spec : {M : Type 1} → statement M

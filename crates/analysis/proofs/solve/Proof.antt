@@ -38,7 +38,9 @@ enum-told c = search needs
 
 -- src/lib.rt:29:57
 -- R and E of all rows are there
-filled : (c : tie.After-enum-told) → Filled (now (c .before .before .before .before .before .before .before .args .table)) (c .before .before .hypertasks .last .1 .0) (c .before .before .hypertasks .last .1 .1 .0) (rows (now (c .before .before .before .before .before .before .before .args .table)))
+filled : (c : tie.After-enum-told) → Filled (now (c .before .before .before .before .before .before .before .args .table))
+    (c .before .before .hypertasks .last .1 .0) (c .before .before .hypertasks .last .1 .1 .0) (rows (now
+    (c .before .before .before .before .before .before .before .args .table)))
 filled c = c .before .before .hypertasks .ensures .1 (c .enum-told .given .1)
 
 hypertasks-pass : (c : tie.After-enum-told) → hypertaskCheck (now (c .before .before .before .before .before .before .before .args .table)) ≡ Passed
@@ -58,8 +60,11 @@ enum-known-r-2 c = search needs
 -- src/lib.rt:30:9
 returns-2 : tie.Need-returns-2
 returns-2 c =
-    let s = now (c .before .before .before .before .before .before .before .before .before .before .before .before .before .args .table) in
-    (sym (refused-7 s _ (hypertasks-pass (c .before .before .before .before .before .before)) (sym (c .before .before .before .guests .ensures .0) ∙ c .before .r2 .given .1)), refl)
+    let s = now (c .before .before .before .before .before .before .before .before .before .before .before .before .before .args .table) in (
+      sym (refused-7 s _ (hypertasks-pass (c .before .before .before .before .before .before)) (sym (c .before .before .before .guests .ensures .0)
+          ∙ c .before .r2 .given .1)),
+      refl,
+    )
 
 enum-told-2 : tie.Need-enum-told-2
 enum-told-2 c = search needs
@@ -87,8 +92,16 @@ slice-aggregate-write-3 c = sym (guests-filled (c .before .before .before .befor
 write-requires : tie.Need-write-requires
 write-requires c κs =
     let a = c .before .before .before .before .before .before .before .before .before .before .before .before .before .before .before .before in
-    let f = filled (c .before .before .before .before .before .before .before .before .before) in
-    (a .pre .1, omega (arith, f .long, a .pre .0 .few), omega (arith, f .long', a .pre .0 .few), omega (arith, guests-filled (c .before .before .before .before) .long, a .pre .0 .few))
+    let f = filled (c .before .before .before .before .before .before .before .before .before) in (
+      a .pre .1,
+      omega (arith, f .long, a .pre .0 .few),
+      omega (arith, f .long', a .pre .0 .few),
+      omega (
+        arith,
+        guests-filled (c .before .before .before .before) .long,
+        a .pre .0 .few,
+      ),
+    )
 
 -- src/lib.rt:18:1
 same-length : tie.Need-same-length
@@ -102,7 +115,8 @@ returns-3 c =
     let f = c .before .before .before .before .before .before .before .before .before .before .before .before in
     let g = c .before .before .before .before .before .before .before in (
       sym (accepted s (hypertasks-pass f) (guests-pass g)),
-      c .before .before .write .ensures ∙ ap (λ (x : List ℕ). x ++ drop (3 * rows s) (now (a .args .lent))) (results-are s _ _ _ (rows s) (filled f) (guests-filled g)),
+      c .before .before .write .ensures ∙ ap (λ (x : List ℕ). x ++ drop (3 * rows s) (now (a .args .lent))) (results-are s _ _ _ (rows s) (filled f)
+          (guests-filled g)),
     )
 
 pub solve-spec : {M : Type 1} → statement M

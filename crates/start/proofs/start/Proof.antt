@@ -56,7 +56,11 @@ returns c =
     let s = now (c .before .before .before .before .before .before .before .before .args .table) in
     let r = c .before .before .before .before .before .analyse in
     let e = sym (same-answer s (replicate 96 0) refl) ∙ sym (r .ensures .0) ∙ c .before .before .r .given .1 in
-    ap (λ (x : Row). record { machine = record { rows = replicate 32 x; count = 0; clock = 0 }; answer = Refused (c .before .before .r .given .0 .0) }) (c .no-row .ensures)
+    ap (λ (x : Row). record {
+      machine = record { rows = replicate 32 x; count = 0; clock = 0 };
+      answer =
+          Refused (c .before .before .r .given .0 .0);
+    }) (c .no-row .ensures)
     ∙ sym (started-refused s _ e)
 
 -- src/lib.rt:63:1
@@ -65,7 +69,11 @@ returns-2 c =
     let s = now (c .before .before .before .before .before .before .before .before .before .args .table) in
     let r = c .before .before .before .before .before .before .analyse in
     let e = sym (same-answer s (replicate 96 0) refl) ∙ sym (r .ensures .0) ∙ c .before .before .before .n .given .1 in
-    ap (λ (x : List Row). record { machine = record { rows = x; count = c .before .before .before .n .given .0 .0; clock = 0 }; answer = Accepted (c .before .before .before .n .given .0 .0) }) (c .rows-of .ensures)
+    ap (λ (x : List Row). record {
+      machine = record { rows = x; count = c .before .before .before .n .given .0 .0; clock = 0 };
+      answer =
+          Accepted (c .before .before .before .n .given .0 .0);
+    }) (c .rows-of .ensures)
     ∙ sym (started-accepted s _ e)
 
 pub start-spec : {M : Type 1} → statement M

@@ -57,10 +57,13 @@ enum-known-j c = search needs
 
 -- src/checks.rt:69:62
 -- what the two searches found
-no-field : (c : tie.After-enum-told) → firstWhere (badField (now (c .before .before .before .before .before .before .before .args .table))) 0 (length (now (c .before .before .before .before .before .before .before .args .table))) ≡ none
+no-field : (c : tie.After-enum-told) → firstWhere (badField (now (c .before .before .before .before .before .before .before .args .table))) 0
+    (length (now (c .before .before .before .before .before .before .before .args .table))) ≡ none
 no-field c = place-none (firstWhere _ _ _) (sym (c .enum-told .given .1) ∙ c .before .before .bad-field .ensures)
 
-late-row : (c : tie.After-known-told2) → firstWhere (badDeadline (now (c .before .before .before .before .before .before .before .before .before .before .before .args .table))) 0 (rows (now (c .before .before .before .before .before .before .before .before .before .before .before .args .table))) ≡ some (c .before .j .given .0 .0)
+late-row : (c : tie.After-known-told2) → firstWhere (badDeadline (now
+    (c .before .before .before .before .before .before .before .before .before .before .before .args .table))) 0 (rows (now
+    (c .before .before .before .before .before .before .before .before .before .before .before .args .table))) ≡ some (c .before .j .given .0 .0)
 late-row c = place-some (firstWhere _ _ _) _ (sym (c .before .j .given .1) ∙ c .before .before .before .bad-deadline .ensures)
 
 add-t13 : tie.Need-add-t13
@@ -81,7 +84,8 @@ returns-6 : tie.Need-returns-6
 returns-6 c =
     let s = now (c .before .before .before .before .before .before .before .before .before .before .args .table) in
     let f = no-field (c .before .before .before) in
-    let d : firstWhere (badDeadline s) 0 (rows s) ≡ none = place-none (firstWhere _ _ _) (sym (c .enum-told2 .given .1) ∙ c .before .before .bad-deadline .ensures) in
+    let d : firstWhere (badDeadline s) 0 (rows s) ≡ none = place-none (firstWhere _ _ _) (sym (c .enum-told2 .given .1)
+    ∙ c .before .before .bad-deadline .ensures) in
     (sym (table-fine s (length-fine s (omega arith) (omega arith) (omega arith)) f d), λ x. sound s (omega arith) (omega arith) (omega arith) f d)
 
 pub check-spec : {M : Type 1} → statement M

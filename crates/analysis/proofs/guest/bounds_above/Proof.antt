@@ -49,8 +49,11 @@ loop-less c = search needs
 -- src/guest.rt:50:5
 loop-again : tie.Need-loop-again Inv-loop μ-loop
 loop-again c =
-    let a = c .before .before .before .before .before in
-    (omega arith, sum-step (bound (now (a .args .table)) (offsetsIn (now (a .args .es))) (a .args .w)) _ _ _ (c .before .before .loop .inv .1) (c .bound-of .ensures))
+    let a = c .before .before .before .before .before in (
+      omega arith,
+      sum-step (bound (now (a .args .table)) (offsetsIn (now (a .args .es))) (a .args .w)) _ _ _ (c .before .before .loop .inv .1)
+          (c .bound-of .ensures),
+    )
 
 -- src/guest.rt:45:1
 returns : tie.Need-returns Inv-loop μ-loop

@@ -45,7 +45,8 @@ returns c =
 
 -- src/guest.rt:123:24
 -- WA(i), as it was found
-begun-by-guest : (c : tie.After-known-told) → WA (now (c .before .before .before .before .before .before .args .table)) (c .before .before .before .before .before .before .args .i) ≡ some (c .before .a .given .0 .0)
+begun-by-guest : (c : tie.After-known-told) → WA (now (c .before .before .before .before .before .before .args .table))
+    (c .before .before .before .before .before .before .args .i) ≡ some (c .before .a .given .0 .0)
 begun-by-guest c = found-some (WA _ _) _ (sym (c .before .a .given .1) ∙ c .before .before .before .window-begun-by-guest .ensures)
 
 window-begun-by-hypertask-requires : tie.Need-window-begun-by-hypertask-requires
@@ -69,7 +70,8 @@ returns-2 c =
     let a = c .before .before .before .before .before .before .before .before .before in
     let s = now (a .args .table) in
     let i = a .args .i in
-    sym (guest-7-hypertask s i _ (begun-by-guest (c .before .before .before)) (found-none (WE s i) (sym (c .enum-told2 .given .1) ∙ c .before .before .window-begun-by-hypertask .ensures)))
+    sym (guest-7-hypertask s i _ (begun-by-guest (c .before .before .before)) (found-none (WE s i) (sym (c .enum-told2 .given .1)
+    ∙ c .before .before .window-begun-by-hypertask .ensures)))
 
 -- src/guest.rt:126:53
 mul-cell : tie.Need-mul-cell

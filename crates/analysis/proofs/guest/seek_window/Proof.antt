@@ -52,7 +52,10 @@ returns-3 : tie.Need-returns-3 Inv-loop μ-loop
 returns-3 c =
     let a = c .before .before .before .before .before .before .before in
     let m = window-never-falls (now (a .args .table)) (offsetsIn (now (a .args .es))) (a .args .i) (a .args .own) in
-    sought _ 1 _ _ _ (upto _) (seek-past _ m 1 _ _ _ (c .before .before .before .loop .inv) (c .before .before .window-side .ensures) (omega (arith, c .if3 .taken)))
+    sought _ 1 _ _ _ (upto _) (seek-past _ m 1 _ _ _ (c .before .before .before .loop .inv) (c .before .before .window-side .ensures) (omega (
+      arith,
+      c .if3 .taken,
+    )))
 
 -- src/guest.rt:86:5
 loop-less : tie.Need-loop-less Inv-loop μ-loop

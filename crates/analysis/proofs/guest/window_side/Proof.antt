@@ -24,14 +24,22 @@ add-result : tie.Need-add-result
 add-result c =
     let a = c .before .before .before .before in
     let s = now (a .args .table) in
-    omega (arith, below≤ s (a .pre .0) (a .args .w) (a .args .i) (a .pre .2) (a .pre .4), bounds≤ s (a .pre .0) (offsetsIn (now (a .args .es))) (a .args .w) (a .args .i) (omega arith) (a .pre .4))
+    omega (
+      arith,
+      below≤ s (a .pre .0) (a .args .w) (a .args .i) (a .pre .2) (a .pre .4),
+      bounds≤ s (a .pre .0) (offsetsIn (now (a .args .es))) (a .args .w) (a .args .i) (omega arith) (a .pre .4),
+    )
 
 -- src/guest.rt:74:5
 add-result-2 : tie.Need-add-result-2
 add-result-2 c =
     let a = c .before .before .before .before in
     let s = now (a .args .table) in
-    omega (arith, below≤ s (a .pre .0) (a .args .w) (a .args .i) (a .pre .2) (a .pre .4), bounds≤ s (a .pre .0) (offsetsIn (now (a .args .es))) (a .args .w) (a .args .i) (omega arith) (a .pre .4))
+    omega (
+      arith,
+      below≤ s (a .pre .0) (a .args .w) (a .args .i) (a .pre .2) (a .pre .4),
+      bounds≤ s (a .pre .0) (offsetsIn (now (a .args .es))) (a .args .w) (a .args .i) (omega arith) (a .pre .4),
+    )
 
 -- src/guest.rt:70:1
 returns : tie.Need-returns

@@ -41,7 +41,10 @@ unfolding activePeriod
 returns-2 c =
     let a = c .before .before .before .before .before in
     let m = active-never-falls (now (a .args .table)) (a .args .i) in
-    ap foundOf (sym (seek-past _ m 1 4000001 _ _ (c .before .before .before .loop .inv) (c .before .before .active-side .ensures) (omega (arith, c .if2 .taken))))
+    ap foundOf (sym (seek-past _ m 1 4000001 _ _ (c .before .before .before .loop .inv) (c .before .before .active-side .ensures) (omega (
+      arith,
+      c .if2 .taken,
+    ))))
 
 -- src/hypertask.rt:62:5
 loop-less : tie.Need-loop-less Inv-loop μ-loop

@@ -31,7 +31,12 @@ add-result-2 c =
     let a = c .before .before .before in
     let s = now (a .args .table) in
     let i = a .args .i in
-    omega (arith, B≤ s (a .pre .0) i (a .pre .1), demand≤ s (a .pre .0) (a .args .t) i (a .pre .1) (a .pre .3), demands≤ s (a .pre .0) (a .args .t) i (omega arith) (a .pre .3))
+    omega (
+      arith,
+      B≤ s (a .pre .0) i (a .pre .1),
+      demand≤ s (a .pre .0) (a .args .t) i (a .pre .1) (a .pre .3),
+      demands≤ s (a .pre .0) (a .args .t) i (omega arith) (a .pre .3),
+    )
 
 -- src/hypertask.rt:49:1
 returns : tie.Need-returns

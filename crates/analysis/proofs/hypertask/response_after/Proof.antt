@@ -50,14 +50,20 @@ cell-requires c κs = search needs
 
 -- src/hypertask.rt:141:29
 -- the start that was found, as the definition has it
-started : (c : tie.After-known-told) → start (now (c .before .before .before .before .before .args .table)) (c .before .before .before .before .before .args .i) (suc (c .before .before .before .before .before .args .before)) ≡ some (c .before .w .given .0 .0)
+started : (c : tie.After-known-told) → start (now (c .before .before .before .before .before .args .table))
+    (c .before .before .before .before .before .args .i) (suc (c .before .before .before .before .before .args .before)) ≡ some (c .before .w .given .0 .0)
 started c = found-some _ _ (sym (c .before .w .given .1) ∙ c .before .before .before .start-after .ensures)
 
 add-less : tie.Need-add-less
 add-less c =
     let a = c .before .before .before .before .before .before in
     let s = now (a .args .table) in
-    omega (arith, start-after-below s (a .args .i) (a .args .before) _ (started (c .before)), D≤ s (a .pre .0) (a .args .i) (a .pre .1), K≤ s (a .pre .0) (a .args .i) (a .pre .1))
+    omega (
+      arith,
+      start-after-below s (a .args .i) (a .args .before) _ (started (c .before)),
+      D≤ s (a .pre .0) (a .args .i) (a .pre .1),
+      K≤ s (a .pre .0) (a .args .i) (a .pre .1),
+    )
 
 -- src/hypertask.rt:141:96
 mul-cell-2 : tie.Need-mul-cell-2
@@ -68,7 +74,9 @@ cell-requires-2 : tie.Need-cell-requires-2
 cell-requires-2 c κs = search needs
 
 -- src/hypertask.rt:141:66
-back : (c : tie.After-cell2) → c .before .before .before .before .before .before .before .args .before * c .cell2 .result ≡ c .before .before .before .before .before .before .before .args .before * T (now (c .before .before .before .before .before .before .before .args .table)) (c .before .before .before .before .before .before .before .args .i)
+back : (c : tie.After-cell2) → c .before .before .before .before .before .before .before .args .before * c .cell2 .result
+    ≡ c .before .before .before .before .before .before .before .args .before * T (now
+    (c .before .before .before .before .before .before .before .args .table)) (c .before .before .before .before .before .before .before .args .i)
 back c = ap (λ (x : ℕ). c .before .before .before .before .before .before .before .args .before * x) (c .cell2 .ensures)
 
 mul-less : tie.Need-mul-less
@@ -83,7 +91,8 @@ returns-2 : tie.Need-returns-2
 returns-2 c =
     let a = c .before .before .before .before .before .before .before .before in
     let s = now (a .args .table) in
-    let e : c .less .result ≡ c .before .before .before .before .w .given .0 .0 + K s (a .args .i) - a .args .before * T s (a .args .i) = omega (arith, back (c .before)) in
+    let e : c .less .result ≡ c .before .before .before .before .w .given .0 .0 + K s (a .args .i) - a .args .before * T s (a .args .i) =
+    omega (arith, back (c .before)) in
     ap foundOf (ap some e ∙ sym (job-after s (a .args .i) (a .args .before) _ (started (c .before .before .before))))
 
 pub response-after-spec : {M : Type 1} → statement M

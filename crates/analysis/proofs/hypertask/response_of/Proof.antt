@@ -50,7 +50,8 @@ returns c =
 
 -- src/hypertask.rt:168:60
 -- t(i), as it was found
-period : (c : tie.After-known-told) → activePeriod (now (c .before .before .before .before .before .before .args .table)) (c .before .before .before .before .before .before .args .i) ≡ some (c .before .t .given .0 .0)
+period : (c : tie.After-known-told) → activePeriod (now (c .before .before .before .before .before .before .args .table))
+    (c .before .before .before .before .before .before .args .i) ≡ some (c .before .t .given .0 .0)
 period c = found-some (activePeriod _ _) _ (sym (c .before .t .given .1) ∙ c .before .before .before .active-period .ensures)
 
 mul-cell : tie.Need-mul-cell
@@ -69,15 +70,25 @@ rounded-up-requires c κs =
 
 -- src/hypertask.rt:169:24
 -- the number of its jobs
-jobs : (c : tie.After-rounded-up) → c .rounded-up .result ≡ up (c .before .before .before .t .given .0 .0) (T (now (c .before .before .before .before .before .before .before .before .args .table)) (c .before .before .before .before .before .before .before .before .args .i))
+jobs : (c : tie.After-rounded-up) → c .rounded-up .result ≡ up (c .before .before .before .t .given .0 .0) (T (now
+    (c .before .before .before .before .before .before .before .before .args .table))
+    (c .before .before .before .before .before .before .before .before .args .i))
 jobs c = c .rounded-up .ensures ∙ ap (up _) (c .before .cell .ensures)
 
 worst-of-requires : tie.Need-worst-of-requires
 worst-of-requires c κs =
     let a = c .before .before .before .before .before .before .before .before in
     let s = now (a .args .table) in
-    let t = c .before .before .before .t .given .0 .0 in
-    (a .pre .0, a .pre .1, c .before .before .before .before .before .before .blocking .ensures, rw (jobs c) (omega (arith, up-mul≤ t (T s (a .args .i)), active≤ s (a .args .i) t (period (c .before .before)))))
+    let t = c .before .before .before .t .given .0 .0 in (
+      a .pre .0,
+      a .pre .1,
+      c .before .before .before .before .before .before .blocking .ensures,
+      rw (jobs c) (omega (
+        arith,
+        up-mul≤ t (T s (a .args .i)),
+        active≤ s (a .args .i) t (period (c .before .before)),
+      )),
+    )
 
 -- src/hypertask.rt:169:19
 enum-known-r : tie.Need-enum-known-r
@@ -98,7 +109,8 @@ returns-2 c =
     let a = at .before .before .before .before .before .before .before .before in
     let s = now (a .args .table) in
     let i = a .args .i in
-    sym (response-6 s i _ (period (at .before .before)) (ap (worst s i) (sym (jobs at)) ∙ found-none (worst s i _) (sym (c .enum-told2 .given .1) ∙ c .before .before .worst-of .ensures)))
+    sym (response-6 s i _ (period (at .before .before)) (ap (worst s i) (sym (jobs at)) ∙ found-none (worst s i _) (sym (c .enum-told2 .given .1)
+    ∙ c .before .before .worst-of .ensures)))
 
 -- src/hypertask.rt:160:1
 returns-3 : tie.Need-returns-3
@@ -107,7 +119,8 @@ returns-3 c =
     let a = at .before .before .before .before .before .before .before .before in
     let s = now (a .args .table) in
     let i = a .args .i in
-    sym (response-is s i _ _ (period (at .before .before)) (ap (worst s i) (sym (jobs at)) ∙ found-some (worst s i _) _ (sym (c .before .r .given .1) ∙ c .before .before .before .worst-of .ensures)))
+    sym (response-is s i _ _ (period (at .before .before)) (ap (worst s i) (sym (jobs at))
+    ∙ found-some (worst s i _) _ (sym (c .before .r .given .1) ∙ c .before .before .before .worst-of .ensures)))
 
 pub response-of-spec : {M : Type 1} → statement M
 response-of-spec =

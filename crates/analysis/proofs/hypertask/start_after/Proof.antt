@@ -50,10 +50,12 @@ cell-requires-3 c κs = search needs
 
 -- src/hypertask.rt:129:50
 -- (q − 1)·T and (q − 1)·K
-back : (c : tie.After-cell3) → c .before .before .before .before .args .before * c .cell3 .result ≡ c .before .before .before .before .args .before * T (now (c .before .before .before .before .args .table)) (c .before .before .before .before .args .i)
+back : (c : tie.After-cell3) → c .before .before .before .before .args .before * c .cell3 .result
+    ≡ c .before .before .before .before .args .before * T (now (c .before .before .before .before .args .table)) (c .before .before .before .before .args .i)
 back c = ap (λ (x : ℕ). c .before .before .before .before .args .before * x) (c .cell3 .ensures)
 
-earlier : (c : tie.After-cell3) → c .before .before .before .before .args .before * c .before .before .cell .result ≡ c .before .before .before .before .args .before * K (now (c .before .before .before .before .args .table)) (c .before .before .before .before .args .i)
+earlier : (c : tie.After-cell3) → c .before .before .before .before .args .before * c .before .before .cell .result
+    ≡ c .before .before .before .before .args .before * K (now (c .before .before .before .before .args .table)) (c .before .before .before .before .args .i)
 earlier c = ap (λ (x : ℕ). c .before .before .before .before .args .before * x) (c .before .before .cell .ensures)
 
 mul-room : tie.Need-mul-room
@@ -76,7 +78,12 @@ mul-seek-start : tie.Need-mul-seek-start
 mul-seek-start c =
     let a = c .before .before .before .before in
     let s = now (a .args .table) in
-    omega (arith, earlier c, own≤ s (a .pre .0) (a .args .before) (a .args .i) (a .pre .1) (jobs≤ s (a .pre .0) (a .args .before) (a .args .i) (a .pre .1) (a .pre .3)))
+    omega (
+      arith,
+      earlier c,
+      own≤ s (a .pre .0) (a .args .before) (a .args .i) (a .pre .1) (jobs≤ s (a .pre .0) (a .args .before) (a .args .i)
+          (a .pre .1) (a .pre .3)),
+    )
 
 -- src/hypertask.rt:130:26
 add-seek-start : tie.Need-add-seek-start
@@ -113,7 +120,8 @@ returns c =
     let a = c .before .before .before .before .before .before in
     let s = now (a .args .table) in
     let i = a .args .i in
-    let own : a .args .b + a .args .before * c .before .before .before .before .cell .result ≡ B s i + a .args .before * K s i = omega (arith, earlier (c .before .before)) in
+    let own : a .args .b + a .args .before * c .before .before .before .before .cell .result
+    ≡ B s i + a .args .before * K s i = omega (arith, earlier (c .before .before)) in
     let end : c .before .less .result ≡ D s i + a .args .before * T s i + 1 - K s i = omega (arith, back (c .before .before)) in
     c .seek-start .ensures ∙ ap foundOf (start-is s i (a .args .before) _ _ own end)
 

@@ -29,7 +29,8 @@ cell-requires : tie.Need-cell-requires
 cell-requires c κs = search needs
 
 -- src/hypertask.rt:87:5
-value : (c : tie.After-cell) → c .before .releases .result * c .cell .result ≡ startDemand (now (c .before .before .before .args .table)) (c .before .before .before .args .w) (c .before .before .before .args .j)
+value : (c : tie.After-cell) → c .before .releases .result * c .cell .result
+    ≡ startDemand (now (c .before .before .before .args .table)) (c .before .before .before .args .w) (c .before .before .before .args .j)
 unfolding startDemand
 value c = cc
 

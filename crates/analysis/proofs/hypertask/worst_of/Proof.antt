@@ -30,8 +30,13 @@ loop-holds c = search needs
 -- src/hypertask.rt:151:28
 response-after-requires : tie.Need-response-after-requires Inv-loop μ-loop
 response-after-requires c κs =
-    let a = c .before .before .before in
-    (a .pre .0, a .pre .1, a .pre .2, job-begins (c .before .loop .before) (a .args .n) (T (now (a .args .table)) (a .args .i)) (c .loop-test .taken) (a .pre .3))
+    let a = c .before .before .before in (
+      a .pre .0,
+      a .pre .1,
+      a .pre .2,
+      job-begins (c .before .loop .before) (a .args .n) (T (now (a .args .table)) (a .args .i))
+          (c .loop-test .taken) (a .pre .3),
+    )
 
 -- src/hypertask.rt:151:23
 enum-known-r : tie.Need-enum-known-r Inv-loop μ-loop
@@ -66,7 +71,8 @@ loop-again c =
     let a = c .before .before .before .before .before .before .before .before in
     let l = c .before .before .before .before .before .before .loop in
     let r = c .before .before .r .given .0 .0 in
-    let f : jobResponse (now (a .args .table)) (a .args .i) (suc (l .before)) ≡ some r = found-some _ _ (sym (c .before .before .r .given .1) ∙ c .before .before .before .before .response-after .ensures) in
+    let f : jobResponse (now (a .args .table)) (a .args .i) (suc (l .before)) ≡ some r = found-some _ _ (sym (c .before .before .r .given .1)
+    ∙ c .before .before .before .before .response-after .ensures) in
     (omega arith, worst-more _ _ (l .before) (l .most) r (l .inv .1) f ∙ ap some (sym (c .larger .ensures)))
 
 -- src/hypertask.rt:145:1

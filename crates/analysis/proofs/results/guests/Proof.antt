@@ -51,7 +51,8 @@ enum-known-g c = search needs
 
 -- src/results.rt:50:25
 -- the response that was found
-found : (c : tie.After-known-told2 Inv-loop μ-loop) → guest (now (c .before .before .before .before .before .before .before .before .args .table)) (c .before .before .before .before .before .loop .i) ≡ Is (c .before .g .given .0 .0)
+found : (c : tie.After-known-told2 Inv-loop μ-loop) → guest (now (c .before .before .before .before .before .before .before .before .args .table))
+    (c .before .before .before .before .before .loop .i) ≡ Is (c .before .g .given .0 .0)
 found c = sym (c .before .before .before .guest-of .ensures) ∙ c .before .g .given .1
 
 cast-gs : tie.Need-cast-gs Inv-loop μ-loop

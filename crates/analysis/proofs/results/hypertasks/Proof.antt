@@ -52,7 +52,8 @@ enum-known-r c = search needs
 
 -- src/results.rt:28:46
 -- the response that was found
-found : (c : tie.After-known-told2 Inv-loop μ-loop) → response (now (c .before .before .before .before .before .before .before .args .table)) (c .before .before .before .before .before .loop .i) ≡ Is (c .before .r .given .0 .0)
+found : (c : tie.After-known-told2 Inv-loop μ-loop) → response (now (c .before .before .before .before .before .before .before .args .table))
+    (c .before .before .before .before .before .loop .i) ≡ Is (c .before .r .given .0 .0)
 found c = sym (c .before .before .before .response-of .ensures) ∙ c .before .r .given .1
 
 mul-cell : tie.Need-mul-cell Inv-loop μ-loop

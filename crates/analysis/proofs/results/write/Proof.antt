@@ -71,7 +71,8 @@ loop-again c =
     let a = c .before .before .before .before .before .before .before .before .before .before .before .before .before in
     let l = c .before .before .before .before .before .before .before .before .loop in (
       omega arith,
-      c .before .before .put-three .ensures ∙ block-more (threeIn (now (a .args .rs)) (now (a .args .es)) (now (a .args .gs))) 3 (λ k. refl) (now (a .args .lent)) (l .lent) (l .i) (l .inv .1),
+      c .before .before .put-three .ensures ∙ block-more (threeIn (now (a .args .rs)) (now (a .args .es)) (now (a .args .gs))) 3 (λ k. refl) (now
+          (a .args .lent)) (l .lent) (l .i) (l .inv .1),
       omega arith,
     )
 
@@ -84,7 +85,8 @@ returns : tie.Need-returns Inv-loop μ-loop
 returns c =
     let a = c .before .before .before .before .before .before in
     let e : c .before .loop .i ≡ a .args .n = omega arith in
-    c .before .loop .inv .1 ∙ ap (λ (x : ℕ). flat (threeIn (now (a .args .rs)) (now (a .args .es)) (now (a .args .gs))) x ++ drop (3 * x) (now (a .args .lent))) e
+    c .before .loop .inv .1 ∙ ap (λ (x : ℕ). flat (threeIn (now (a .args .rs)) (now (a .args .es)) (now (a .args .gs))) x ++ drop (3 * x) (now
+    (a .args .lent))) e
 
 pub write-spec : {M : Type 1} → statement M
 write-spec =
