@@ -3,9 +3,9 @@
 use mathlib.Core.Path.{_≡_, refl}
 use mathlib.Core.Bool.{Bool, true, false, _||_, cond, true≢false}
 use mathlib.Core.List.{List, [], _∷_}
-use Prim.Native.Nat.{ℕ, suc, _-_, _≤_, _<_}
+use Prim.Native.Nat.{ℕ, suc, _<_}
 use native.Mathlib.Omega.{arith}
-use lib.Dec.{leb, eqb}
+use lib.Dec.{leb, ltb, eqb}
 use lib.ListN.{length, getD}
 use borrow.Author.Tests.{ltb-false, leb-false, lt-ltb, le-ltb, eqb-true, not-false}
 use Rattle.machine.specs.declared.Stage.{Stage}
@@ -13,10 +13,9 @@ use Rattle.machine.specs.declared.Row.{Row}
 use Rattle.machine.specs.Rows.{noRow, inMask, age, Found, at, none, firstFrom, first, orElse, mapFrom, isHyper, hasBegun, hasBudget}
 use Rattle.machine.specs.WellFormed.{rowFits, fieldsFit, stageFits}
 use Rattle.machine.specs.TickRule.{youngerThan, pastLast, tooSoon, whileHyper, enforced, begun, waiting, ready, chosen, turned}
-use Rattle.machine.specs.OnePass.{place, misplaced, willWait, willBeReady, seenFrom, withArrivals, chosenBy, turnedRow}
-use Rattle.machine.proofs.Tests.{both, fields-say}
-use Rattle.machine.proofs.Searches.{none-cons, found-at, below, or-place, first-either, map-map}
-use Rattle.machine.proofs.Mask.{inMaskAt}
+use Rattle.machine.specs.OnePass.{place, misplaced, arrives, willWait, willBeReady, seenFrom, chosenBy, turnedRow}
+use Rattle.machine.proofs.Tests.{both, and-false, fields-say}
+use Rattle.machine.proofs.Searches.{none-cons, found-at, below, or-place, map-map}
 
 -- steps 1 and 2 as one change of each row
 pub turned-law : (clock mask : ℕ) (rows : List Row) → turned clock mask rows ≡ mapFrom (turnedRow clock mask) 0 rows
@@ -67,17 +66,29 @@ not-due clock t k e (Stage.Guest a u) d h y = go (eqb (age clock a) e) refl
 not-due clock t k e (Stage.Hyper a l) d h y = absurd (true≢false h)
 not-due clock t k e (Stage.Closed a) d h y = refl
 
+-- in an accepted tick every task in the mask arrives
+pub arrives-law : (clock count mask i : ℕ) (r : Row) (rs : List Row) → Taking clock count mask i (r ∷ rs) → arrives clock count mask i r ≡ inMask mask i
+arrives-law clock count mask i r rs t = go (inMask mask i) refl
+  where
+    go : (b : Bool) → inMask mask i ≡ b → arrives clock count mask i r ≡ b
+    go true e =
+        let past : leb count i ≡ false = rw e at (none-cons (pastLast mask count) i r rs (t .known) .0) in
+        let y : youngerThan clock (r .t) (r .stage) ≡ false = rw e at (none-cons (tooSoon mask clock) i r rs (t .apart) .0) in
+        let h : isHyper (r .stage) ≡ false = rw e at (none-cons (whileHyper mask) i r rs (t .free) .0) in
+        rw (e, y, h, lt-ltb i count (leb-false count i past))
+    go false e = rw (e, and-false (ltb i count))
+
 -- a row after steps 1 and 2
-record After (clock mask i : ℕ) (r : Row) : Type 0 where
+record After (clock count mask i : ℕ) (r : Row) : Type 0 where
   pub begun-as : begun i (turnedRow clock mask i r) ≡ begun i r
   pub waiting-as : waiting i (turnedRow clock mask i r) ≡ willWait clock i r
-  pub ready-as : ready i (turnedRow clock mask i r) ≡ (inMaskAt mask i r || willBeReady clock i r)
+  pub ready-as : ready i (turnedRow clock mask i r) ≡ willBeReady clock count mask i r
 
-row-after : (clock count mask i : ℕ) (r : Row) (rs : List Row) → Taking clock count mask i (r ∷ rs) → After clock mask i r
+row-after : (clock count mask i : ℕ) (r : Row) (rs : List Row) → Taking clock count mask i (r ∷ rs) → After clock count mask i r
 unfolding turnedRow
 row-after clock count mask i r rs t = go (inMask mask i) refl
   where
-    go : (b : Bool) → inMask mask i ≡ b → After clock mask i r
+    go : (b : Bool) → inMask mask i ≡ b → After clock count mask i r
     go true e =
         let lt : leb count i ≡ false = rw e at (none-cons (pastLast mask count) i r rs (t .known) .0) in
         let y : youngerThan clock (r .t) (r .stage) ≡ false = rw e at (none-cons (tooSoon mask clock) i r rs (t .apart) .0) in
@@ -89,22 +100,22 @@ row-after clock count mask i r rs t = go (inMask mask i) refl
         record {
           begun-as = rw (e, not-begun (r .k) (r .stage) h);
           waiting-as = rw (e, not-due clock (r .t) (r .k) (r .e) (r .stage) (omega arith) h y);
-          ready-as = rw (e, lt-ltb 0 (r .c) (f .some-guest));
+          ready-as = rw (arrives-law clock count mask i r rs t, e, lt-ltb 0 (r .c) (f .some-guest));
         }
     go false e =
         record {
           begun-as = rw (e, begun-stays clock (r .k) (r .e) (r .stage));
           waiting-as = rw e;
-          ready-as = rw e;
+          ready-as = rw (arrives-law clock count mask i r rs t, e);
         }
 
 -- the searches of step 3, over the rows before steps 1 and 2
-record AfterAll (clock mask i : ℕ) (l : List Row) : Type 0 where
+record AfterAll (clock count mask i : ℕ) (l : List Row) : Type 0 where
   pub begun-as : firstFrom begun i (mapFrom (turnedRow clock mask) i l) ≡ firstFrom begun i l
   pub waiting-as : firstFrom waiting i (mapFrom (turnedRow clock mask) i l) ≡ firstFrom (willWait clock) i l
-  pub ready-as : firstFrom ready i (mapFrom (turnedRow clock mask) i l) ≡ firstFrom (λ j r. inMaskAt mask j r || willBeReady clock j r) i l
+  pub ready-as : firstFrom ready i (mapFrom (turnedRow clock mask) i l) ≡ firstFrom (willBeReady clock count mask) i l
 
-after-all : (clock count mask i : ℕ) (l : List Row) → Taking clock count mask i l → AfterAll clock mask i l
+after-all : (clock count mask i : ℕ) (l : List Row) → Taking clock count mask i l → AfterAll clock count mask i l
 unfolding firstFrom mapFrom
 after-all clock count mask i [] t = record { begun-as = refl; waiting-as = refl; ready-as = refl }
 after-all clock count mask i (r ∷ rs) t =
@@ -116,22 +127,20 @@ after-all clock count mask i (r ∷ rs) t =
       ready-as = rw (q .ready-as, ih .ready-as);
     }
 
--- who runs, by what the pass and the walk found
-pub chosen-law : (clock count mask x : ℕ) (rows : List Row) → length rows ≡ 32 → Taking clock count mask 0 rows
-    → chosenBy (withArrivals (seenFrom clock 0 rows) 32 x (place (first (inMaskAt mask) rows))) ≡ place (chosen (turned clock mask rows))
+-- who runs, by what the pass found
+pub chosen-law : (clock count mask : ℕ) (moved : Bool) (rows : List Row) → length rows ≡ 32 → Taking clock count mask 0 rows
+    → chosenBy (seenFrom clock count mask moved 0 rows) ≡ place (chosen (turned clock mask rows))
 unfolding chosen seenFrom
-chosen-law clock count mask x rows l t =
+chosen-law clock count mask moved rows l t =
     let q = after-all clock count mask 0 rows t in
-    let either = first-either (inMaskAt mask) (willBeReady clock) 0 rows (omega arith) in
+    let ready-first : Found = first (willBeReady clock count mask) rows in
     rw (
       turned-law clock mask rows,
       q .begun-as,
       q .waiting-as,
       q .ready-as,
-      or-place (first begun rows) (orElse (first (willWait clock) rows) (first (λ j r. inMaskAt mask j r || willBeReady clock j r) rows))
-          (below begun rows l),
-      or-place (first (willWait clock) rows) (first (λ j r. inMaskAt mask j r || willBeReady clock j r) rows) (below (willWait clock) rows l),
-      either,
+      or-place (first begun rows) (orElse (first (willWait clock) rows) ready-first) (below begun rows l),
+      or-place (first (willWait clock) rows) ready-first (below (willWait clock) rows l),
     )
 
 -- the chosen task is Hyper, or a Guest with budget

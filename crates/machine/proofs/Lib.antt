@@ -1,7 +1,7 @@
 pub mod Tests
 pub mod Searches
-pub mod Pass
 pub mod Mask
 pub mod Verdicts
+pub mod Pass
 pub mod Choice
 pub mod Turns

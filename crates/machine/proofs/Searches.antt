@@ -1,14 +1,13 @@
 -- Laws of searches, counts and maps over the rows. Assumes nothing.
 use mathlib.Core.Path.{_≡_, refl, _∙_, ap, sym}
-use mathlib.Core.Bool.{Bool, true, false, not, _&&_, _||_, cond, true≢false}
+use mathlib.Core.Bool.{Bool, true, false, not, _&&_, cond, true≢false}
 use mathlib.Core.List.{List, [], _∷_, _++_}
 use Prim.Native.Nat.{ℕ, zero, suc, _+_, _-_, _≤_, _<_}
-use native.Mathlib.Numerals.{add-one}
 use native.Mathlib.Omega.{arith}
 use lib.Dec.{ltb}
 use lib.ListN.{length, getD, take, drop, set}
-use lib.Seq.{drop-cons, drop-nil, take-nil, take-suc, take-suc-set, drop-set-lt, append-snoc}
-use borrow.Author.Tests.{ltb-true, ltb-false, lt-ltb, le-ltb}
+use lib.Seq.{drop-cons, drop-nil, take-nil, take-suc, append-snoc, length-take-le, getD-at, set-at}
+use borrow.Author.Tests.{ltb-true, ltb-false, lt-ltb}
 use Rattle.machine.specs.declared.Row.{Row}
 use Rattle.machine.specs.Rows.{noRow, Found, at, none, firstFrom, first, orElse, mapFrom, every, howMany}
 use Rattle.machine.specs.OnePass.{place, isNone}
@@ -99,10 +98,6 @@ pub place-cond : (b : Bool) (i : ℕ) (f : Found) → place (cond b (at i) f) �
 place-cond true i f = refl
 place-cond false i f = refl
 
-pub some-cond : (b : Bool) (i : ℕ) (f : Found) → not (isNone (cond b (at i) f)) ≡ cond b true (not (isNone f))
-some-cond true i f = refl
-some-cond false i f = refl
-
 -- of 32 places, a place that was found is below 32
 pub below : (p : ℕ → Row → Bool) (rows : List Row) → length rows ≡ 32 → (i : ℕ) → first p rows ≡ at i → i < 32
 below p rows l i e = let t = found-at p rows i e in omega arith
@@ -118,39 +113,6 @@ place-none none x h e le = refl
 pub or-place : (f g : Found) → ((i : ℕ) → f ≡ at i → i < 32) → place (orElse f g) ≡ cond (ltb (place f) 32) (place f) (place g)
 or-place (at i) g h = rw (lt-ltb i 32 (h i refl))
 or-place none g h = refl
-
--- a search for either of two properties comes to the lower of two places
-place-from : (p : ℕ → Row → Bool) (i : ℕ) (l : List Row) → i + length l ≤ 32 → i ≤ place (firstFrom p i l)
-unfolding firstFrom
-place-from p i [] h = omega arith
-place-from p i (r ∷ rs) h = go (p i r) (place-from p (suc i) rs (omega arith))
-  where
-    go : (b : Bool) → suc i ≤ place (firstFrom p (suc i) rs) → i ≤ place (cond b (at i) (firstFrom p (suc i) rs))
-    go true q = omega arith
-    go false q = omega arith
-
-pub first-either : (p q : ℕ → Row → Bool) (i : ℕ) (l : List Row) → i + length l ≤ 32
-    → place (firstFrom (λ j r. p j r || q j r) i l)
-    ≡ cond (ltb (place (firstFrom p i l)) (place (firstFrom q i l))) (place (firstFrom p i l)) (place (firstFrom q i l))
-unfolding firstFrom
-first-either p q i [] h = refl
-first-either p q i (r ∷ rs) h =
-    go (p i r) (q i r) (place-from p (suc i) rs (omega arith)) (place-from q (suc i) rs (omega arith)) (first-either p q (suc i) rs (omega arith))
-  where
-    P : Found
-    P = firstFrom p (suc i) rs
-
-    Q : Found
-    Q = firstFrom q (suc i) rs
-
-    go : (x y : Bool) → suc i ≤ place P → suc i ≤ place Q
-        → place (firstFrom (λ j s. p j s || q j s) (suc i) rs) ≡ cond (ltb (place P) (place Q)) (place P) (place Q)
-        → place (cond (x || y) (at i) (firstFrom (λ j s. p j s || q j s) (suc i) rs))
-        ≡ cond (ltb (place (cond x (at i) P)) (place (cond y (at i) Q))) (place (cond x (at i) P)) (place (cond y (at i) Q))
-    go true true a b e = rw (le-ltb i i (omega arith))
-    go true false a b e = rw (lt-ltb i (place Q) (omega arith))
-    go false true a b e = rw (le-ltb (place P) i (omega arith))
-    go false false a b e = e
 
 -- every row of a table and every place past it, as one search
 pub every-place : (p q : Row → Bool) (n i : ℕ) (l : List Row)
@@ -185,27 +147,66 @@ every-place p q n i (r ∷ rs) = go (ltb i n) refl (every-place p q n (suc i) rs
 
 -- counts
 
-pub count-le : (p : Row → Bool) (l : List Row) → howMany p l ≤ length l
+pub count-drop : (p : Row → Bool) (l : List Row) (k : ℕ) → howMany p (drop k l) ≤ howMany p l
 unfolding howMany
-count-le p [] = omega arith
-count-le p (r ∷ rs) = go (p r) (count-le p rs)
+count-drop p l zero = omega arith
+count-drop p [] (suc k) = omega arith
+count-drop p (r ∷ rs) (suc k) = go (p r) (count-drop p rs k)
   where
-    go : (b : Bool) → howMany p rs ≤ length rs → cond b (suc (howMany p rs)) (howMany p rs) ≤ suc (length rs)
+    go : (b : Bool) → howMany p (drop k rs) ≤ howMany p rs → howMany p (drop k rs) ≤ cond b (suc (howMany p rs)) (howMany p rs)
     go true h = omega arith
-    go false h = omega arith
+    go false h = h
 
--- a map in place: what is done, and what is left
-module _ (f : ℕ → Row → Row) (out : List Row) (i : ℕ) where
-  pub map-step : (q : Row) → i < length out → q ≡ f i (getD out i noRow)
-      → take i out ++ mapFrom f i (drop i out) ≡ take (i + 1) (set out i q) ++ mapFrom f (i + 1) (drop (i + 1) (set out i q))
+-- none or some, as a search says
+module _ (p : ℕ → Row → Bool) (q : Row → Bool) (same : (i : ℕ) (r : Row) → p i r ≡ q r) where
+  pub count-none : (i : ℕ) (l : List Row) → firstFrom p i l ≡ none → howMany q l ≡ 0
+  unfolding howMany
+  count-none i [] h = refl
+  count-none i (r ∷ rs) h =
+      let t = none-cons p i r rs h in
+      rw (sym (same i r) ∙ t .0) (count-none (suc i) rs (t .1))
+
+  pub count-some : (i x : ℕ) (l : List Row) → firstFrom p i l ≡ at x → 1 ≤ howMany q l
+  unfolding howMany firstFrom
+  count-some i x [] h = let z : _≡_ {A = ℕ} 0 1 = cc in absurd (omega arith)
+  count-some i x (r ∷ rs) h = go (p i r) refl h (count-some (suc i) x rs)
+    where
+      go : (b : Bool) → p i r ≡ b → cond b (at i) (firstFrom p (suc i) rs) ≡ at x → (firstFrom p (suc i) rs ≡ at x → 1 ≤ howMany q rs)
+          → 1 ≤ cond (q r) (suc (howMany q rs)) (howMany q rs)
+      go true e k ih = rw (sym (same i r) ∙ e) (omega arith)
+      go false e k ih = rw (sym (same i r) ∙ e) (ih k)
+
+-- maps over the rows
+
+-- a map in place, from the last row to the first: what is left, and what is done
+module _ (f : ℕ → Row → Row) (rows next : List Row) (i : ℕ) (some : 0 < i) (long : i ≤ length rows)
+    (so-far : next ≡ take i rows ++ mapFrom f i (drop i rows)) where
+  cut : next ≡ take (i - 1) rows ++ getD rows (i - 1) noRow ∷ mapFrom f i (drop i rows)
+  cut =
+      let up : suc (i - 1) ≡ i = omega arith in
+      let t : take i rows ≡ take (i - 1) rows ++ (getD rows (i - 1) noRow ∷ []) = rw up at (take-suc rows (i - 1) noRow (omega arith)) in
+      so-far ∙ rw (t, append-snoc)
+
+  left : length (take (i - 1) rows) ≡ i - 1
+  left = length-take-le (i - 1) rows (omega arith)
+
+  pub map-reads : getD next (i - 1) noRow ≡ getD rows (i - 1) noRow
+  map-reads = rw cut (getD-at (take (i - 1) rows) (getD rows (i - 1) noRow) (mapFrom f i (drop i rows)) noRow (i - 1) left)
+
+  done : take (i - 1) rows ++ f (i - 1) (getD rows (i - 1) noRow) ∷ mapFrom f i (drop i rows) ≡ take (i - 1) rows ++ mapFrom f (i - 1) (drop (i - 1) rows)
   unfolding mapFrom
-  map-step q h e = rw (add-one, drop-cons out i noRow h, ← e, take-suc-set out i q h, drop-set-lt (suc i) out i q (omega arith), append-snoc)
+  done =
+      let up : suc (i - 1) ≡ i = omega arith in
+      let t : drop (i - 1) rows ≡ getD rows (i - 1) noRow ∷ drop i rows = rw up at (drop-cons rows (i - 1) noRow (omega arith)) in
+      rw (t, up)
+
+  pub map-stores : (q : Row) → q ≡ f (i - 1) (getD rows (i - 1) noRow) → set next (i - 1) q ≡ take (i - 1) rows ++ mapFrom f (i - 1) (drop (i - 1) rows)
+  map-stores q e =
+      rw (cut, set-at (take (i - 1) rows) (getD rows (i - 1) noRow) (mapFrom f i (drop i rows)) q (i - 1) left, e) done
 
   -- a row that f doesn't change isn't written
-  pub map-skip : i < length out → f i (getD out i noRow) ≡ getD out i noRow
-      → take i out ++ mapFrom f i (drop i out) ≡ take (i + 1) out ++ mapFrom f (i + 1) (drop (i + 1) out)
-  unfolding mapFrom
-  map-skip h e = rw (add-one, drop-cons out i noRow h, e, take-suc out i noRow h, append-snoc)
+  pub map-keeps : getD rows (i - 1) noRow ≡ f (i - 1) (getD rows (i - 1) noRow) → next ≡ take (i - 1) rows ++ mapFrom f (i - 1) (drop (i - 1) rows)
+  map-keeps e = cut ∙ ap (λ r. take (i - 1) rows ++ r ∷ mapFrom f i (drop i rows)) e ∙ done
 
 pub map-map : (f g : ℕ → Row → Row) (i : ℕ) (l : List Row) → mapFrom g i (mapFrom f i l) ≡ mapFrom (λ j r. g j (f j r)) i l
 unfolding mapFrom

@@ -1,30 +1,29 @@
--- An accepted tick in place: the loop of steps 1 and 2 writes only the rows that change, and then the chosen task runs.
+-- The pass decides as refusals 8 to 12 do, and in an accepted tick the rows that it leaves are the rows after steps 1 and 2.
 -- Assumes nothing.
 use mathlib.Core.Path.{_≡_, refl, _∙_, ap, sym}
 use mathlib.Core.Bool.{Bool, true, false, not, _&&_, _||_, cond, true≢false}
-use mathlib.Core.List.{List, [], _∷_, _++_}
+use mathlib.Core.List.{List, [], _∷_}
 use Prim.Native.Nat.{ℕ, suc, _+_, _-_, _≤_, _<_, _^_}
 use native.Mathlib.Omega.{arith}
-use lib.Dec.{leb, eqb}
-use lib.ListN.{length, getD, set, take, drop, length-set, take-append-drop}
-use lib.Seq.{drop-set-lt}
-use borrow.Author.Tests.{le-ltb, le-leb, eqb-true, not-false}
+use lib.Dec.{leb, ltb, eqb}
+use lib.ListN.{length, getD}
+use borrow.Author.Tests.{lt-ltb, le-leb}
 use Rattle.refusals.specs.declared.Refusal.{Refusal}
 use Rattle.machine.specs.declared.Stage.{Stage}
 use Rattle.machine.specs.declared.Row.{Row}
 use Rattle.machine.specs.declared.Machine.{Machine}
 use Rattle.machine.specs.declared.Seen.{Seen}
 use Rattle.machine.specs.declared.Judged.{Judged}
-use Rattle.machine.specs.Rows.{noRow, inMask, at, none, firstFrom, first, mapFrom, isHyper, hasBudget}
-use Rattle.machine.specs.WellFormed.{isBlank}
-use Rattle.machine.specs.TickRule.{pastLast, Verdict, refused, accepted, verdict, enforced, chosen, turned}
-use Rattle.machine.specs.OnePass.{place, isNone, misplaced, isDue, due, seenFrom, withArrivals, chosenBy, turnsOf, judgedBy, judgedOf}
-use Rattle.machine.specs.OnePass.{turnedRow}
-use Rattle.machine.proofs.Tests.{both, first-fails, blank-never}
-use Rattle.machine.proofs.Searches.{none-cons, none-drop, is-none, below, place-found, place-none, map-step, map-skip}
-use Rattle.machine.proofs.Mask.{inMaskAt, empty-mask}
-use Rattle.machine.proofs.Verdicts.{formed, passed}
-use Rattle.machine.proofs.Choice.{Taking, taking-next, turned-law, chosen-law, chosen-runs}
+use Rattle.machine.specs.Rows.{noRow, inMask, Found, at, none, mapFrom, howMany, isHyper, hasBudget}
+use Rattle.machine.specs.WellFormed.{begunRow, wellFormed}
+use Rattle.machine.specs.TickRule.{pastLast, tooSoon, whileHyper, Verdict, refused, accepted, verdict, enforced, chosen, turned}
+use Rattle.machine.specs.OnePass.{place, isDue, turnedRow, passedRow, seenFrom, pastFrom, chosenBy, orRefused, judgedBy}
+use Rattle.machine.proofs.Tests.{and-true, not-leb}
+use Rattle.machine.proofs.Searches.{below, place-found, place-none, map-length}
+use Rattle.machine.proofs.Mask.{past-law}
+use Rattle.machine.proofs.Verdicts.{well-law, formed, pastIn, soonIn, hyperIn, passed}
+use Rattle.machine.proofs.Pass.{Passing}
+use Rattle.machine.proofs.Choice.{Taking, taking-next, turned-law, arrives-law, chosen-law, chosen-runs}
 
 -- a row that is neither in the mask nor due stays
 not-enforced : (clock k e : ℕ) (s : Stage) → isDue clock e s ≡ false → enforced clock k e s ≡ s
@@ -41,153 +40,170 @@ row-stays clock mask i r h = go (inMask mask i) refl
     go true e = let z : true ≡ false = rw e at h in absurd (true≢false z)
     go false e = let q : isDue clock (r .e) (r .stage) ≡ false = rw e at h in rw (e, not-enforced clock (r .k) (r .e) (r .stage) q)
 
--- rows past the last stay
-past-stays : (clock count mask i : ℕ) (l : List Row) → count ≤ i → Taking clock count mask i l → mapFrom (turnedRow clock mask) i l ≡ l
-unfolding mapFrom
-past-stays clock count mask i [] h t = refl
-past-stays clock count mask i (r ∷ rs) h t =
-    let blank : isBlank r ≡ true = not-false (isBlank r) (rw (le-ltb i count h) at (none-cons (misplaced clock count) i r rs (t .fit) .0)) in
-    let out : inMask mask i ≡ false = first-fails (inMask mask i) (leb count i) (le-leb count i h) (none-cons (pastLast mask count) i r rs (t .known) .0) in
-    let stays = row-stays clock mask i r (rw (out, blank-never r blank)) in
-    rw (stays, past-stays clock count mask (suc i) rs (omega arith) (taking-next clock count mask i r rs t))
-
--- where no task is in the mask and none is due, all rows stay
-quiet-stays : (clock i : ℕ) (l : List Row) → firstFrom (due clock) i l ≡ none → mapFrom (turnedRow clock 0) i l ≡ l
-unfolding mapFrom
-quiet-stays clock i [] h = refl
-quiet-stays clock i (r ∷ rs) h =
-    let t = none-cons (due clock) i r rs h in
-    rw (row-stays clock 0 i r (rw (empty-mask i, t .0)), quiet-stays clock (suc i) rs (t .1))
-
--- what the step knows once the tick is accepted
-pub record Accepted (m : Machine) (mask turns runs : ℕ) : Type 0 where
-  pub ok : verdict m mask ≡ accepted
-  pub room : m .clock < 2 ^ 40
-  pub long : length (m .rows) ≡ 32
-  pub few : turns ≤ 32
-  pub rest : mapFrom (turnedRow (m .clock) mask) turns (drop turns (m .rows)) ≡ drop turns (m .rows)
-  pub who : runs ≡ place (chosen (turned (m .clock) mask (m .rows)))
+-- the rows as the pass leaves them
+pub passed-rows : (clock count mask i : ℕ) (l : List Row) → Taking clock count mask i l
+    → mapFrom (passedRow clock count mask) i l ≡ mapFrom (turnedRow clock mask) i l
+unfolding mapFrom passedRow
+passed-rows clock count mask i [] t = refl
+passed-rows clock count mask i (r ∷ rs) t =
+    rw (arrives-law clock count mask i r rs t, passed-rows clock count mask (suc i) rs (taking-next clock count mask i r rs t))
+    (go (inMask mask i || isDue clock (r .e) (r .stage)) refl)
+  where
+    go : (b : Bool) → (inMask mask i || isDue clock (r .e) (r .stage)) ≡ b
+        → cond b (turnedRow clock mask i r) r ∷ mapFrom (turnedRow clock mask) (suc i) rs
+        ≡ turnedRow clock mask i r ∷ mapFrom (turnedRow clock mask) (suc i) rs
+    go true e = refl
+    go false e = rw (row-stays clock mask i r e)
 
 pub taking : (m : Machine) (mask : ℕ) → verdict m mask ≡ accepted → Taking (m .clock) (m .count) mask 0 (m .rows)
 taking m mask ok =
     let p = passed m mask ok in
     record { fit = formed m (p .good) .each; known = p .known; apart = p .apart; free = p .free }
 
-module _ (m : Machine) (mask turns runs : ℕ) (l : length (m .rows) ≡ 32) where
-  count-stays : Taking (m .clock) (m .count) mask 0 (m .rows)
-      → mapFrom (turnedRow (m .clock) mask) (m .count) (drop (m .count) (m .rows)) ≡ drop (m .count) (m .rows)
-  count-stays t =
-      let z : 0 + m .count ≡ m .count = omega arith in
-      past-stays (m .clock) (m .count) mask (m .count) (drop (m .count) (m .rows)) (omega arith)
-      (record {
-        fit = rw z at (none-drop (misplaced (m .clock) (m .count)) (m .rows) 0 (m .count) (t .fit));
-        known = rw z at (none-drop (pastLast mask (m .count)) (m .rows) 0 (m .count) (t .known));
-        apart = rw z at (none-drop _ (m .rows) 0 (m .count) (t .apart));
-        free = rw z at (none-drop _ (m .rows) 0 (m .count) (t .free));
-      })
+-- a verdict as the step gets it: a refusal, or the place of the task that runs
+abbrev pub judgedAs : Machine → ℕ → Verdict → Judged
+judgedAs m mask (refused refusal) = Judged.Refused refusal
+judgedAs m mask accepted = Judged.Accepted (place (chosen (turned (m .clock) mask (m .rows))))
 
-  turns-stay : verdict m mask ≡ accepted → turns ≡ turnsOf (m .clock) (m .count) mask (m .rows)
-      → (turns ≤ 32) × (mapFrom (turnedRow (m .clock) mask) turns (drop turns (m .rows)) ≡ drop turns (m .rows))
-  turns-stay ok e = go (eqb mask 0 && isNone (first (due (m .clock)) (m .rows))) refl
-    where
-      go : (b : Bool) → (eqb mask 0 && isNone (first (due (m .clock)) (m .rows))) ≡ b
-          → (turns ≤ 32) × (mapFrom (turnedRow (m .clock) mask) turns (drop turns (m .rows)) ≡ drop turns (m .rows))
-      go true q =
-          let t = both (eqb mask 0) (isNone (first (due (m .clock)) (m .rows))) q in
-          let z : turns ≡ 0 = rw q at e in
-          let y : mask ≡ 0 = eqb-true mask 0 (t .0) in
-          (omega arith, rw (z, y) (quiet-stays (m .clock) 0 (m .rows) (is-none (first (due (m .clock)) (m .rows)) (t .1))))
-      go false q =
-          let z : turns ≡ m .count = rw q at e in
-          let f = formed m (passed m mask ok .good) in
-          (omega arith, rw z (count-stays (taking m mask ok)))
+module _ (m : Machine) (mask : ℕ) (w : Seen) (next : List Row) (p : Passing m mask 0 w next) where
+  unfit-test : (a b c : Bool) → (not a || (not b || not c)) ≡ not ((a && b) && c)
+  unfit-test true true c = refl
+  unfit-test true false c = refl
+  unfit-test false b c = refl
 
-  pub judged : judgedOf (m .clock) (m .count) mask (m .rows) ≡ Judged.Accepted turns runs → Accepted m mask turns runs
-  unfolding judgedOf
-  judged h = go (verdict m mask) refl h
+  unfit-law : (ltb (m .count) 1 || (ltb 32 (m .count) || ltb (2 ^ 40) (m .clock))) ≡ not (wellFormed m)
+  unfit-law =
+      rw (
+        well-law m,
+        p .fit,
+        le-leb (howMany begunRow (m .rows)) 1 (p .one),
+        and-true (leb (m .clock) (2 ^ 40)),
+        not-leb 1 (m .count),
+        not-leb (m .count) 32,
+        not-leb (m .clock) (2 ^ 40),
+      ) (unfit-test (leb 1 (m .count)) (leb (m .count) 32) (leb (m .clock) (2 ^ 40)))
+
+  soon-place : w .soon ≡ place (soonIn m mask)
+  unfolding seenFrom
+  soon-place = ap (λ v. v .soon) (p .seen)
+
+  hyper-place : w .hyper ≡ place (hyperIn m mask)
+  unfolding seenFrom
+  hyper-place = ap (λ v. v .hyper) (p .seen)
+
+  -- a check that refuses, and one that lets the tick on
+  refuses : (refusal : ℕ → Refusal) (f : Found) (x i : ℕ) (j : Judged) → ((k : ℕ) → f ≡ at k → k < 32) → x ≡ place f → f ≡ at i
+      → orRefused refusal x j ≡ Judged.Refused (refusal (i + 1))
+  refuses refusal f x i j b e q =
+      let z : x ≡ i = e ∙ ap place q in
+      rw (z, lt-ltb i 32 (b i q))
+
+  lets : (refusal : ℕ → Refusal) (f : Found) (x : ℕ) (j : Judged) → x ≡ place f → f ≡ none → orRefused refusal x j ≡ j
+  lets refusal f x j e q =
+      let z : x ≡ 32 = e ∙ ap place q in
+      rw z
+
+  pub judged-law : judgedBy (m .clock) (m .count) mask w ≡ judgedAs m mask (verdict m mask)
+  unfolding judgedBy verdict
+  judged-law = go (wellFormed m) refl (eqb (m .clock) (2 ^ 40)) refl
     where
-      go : (v : Verdict) → verdict m mask ≡ v → judgedBy m mask v ≡ Judged.Accepted turns runs → Accepted m mask turns runs
-      go (refused x) e q = let z : _≡_ {A = ℕ} 0 1 = cc in absurd (omega arith)
+      runs : verdict m mask ≡ accepted → chosenBy w ≡ place (chosen (turned (m .clock) mask (m .rows)))
+      runs ok = ap chosenBy (p .seen) ∙ chosen-law (m .clock) (m .count) mask (w .moved) (m .rows) (p .long) (taking m mask ok)
+
+      yes : Judged
+      yes = Judged.Accepted (chosenBy w)
+
+      at-hyper : Judged
+      at-hyper = orRefused Refusal.ArrivalWhileHyper (w .hyper) yes
+
+      at-soon : Judged
+      at-soon = orRefused Refusal.ArrivalTooSoon (w .soon) at-hyper
+
+      past : ℕ
+      past = pastFrom mask (m .count) (32 - m .count)
+
+      past-place : wellFormed m ≡ true → past ≡ place (pastIn m mask)
+      past-place e = sym (past-law mask (m .count) (m .rows) (p .long) (formed m e .most))
+
+      on : wellFormed m ≡ true → eqb (m .clock) (2 ^ 40) ≡ false → (f : Found) → pastIn m mask ≡ f → (g : Found) → soonIn m mask ≡ g
+          → (h : Found) → hyperIn m mask ≡ h → judgedBy (m .clock) (m .count) mask w ≡ judgedAs m mask (verdict m mask)
+      on e t (at i) q g r h s =
+          rw (unfit-law, e, t, q)
+          (refuses Refusal.NoSuchTask (pastIn m mask) past i at-soon (below (pastLast mask (m .count)) (m .rows) (p .long)) (past-place e) q)
+      on e t none q (at i) r h s =
+          rw (unfit-law, e, t, q, r)
+          (lets Refusal.NoSuchTask (pastIn m mask) past at-soon (past-place e) q
+          ∙ refuses Refusal.ArrivalTooSoon (soonIn m mask) (w .soon) i at-hyper (below (tooSoon mask (m .clock)) (m .rows) (p .long)) soon-place r)
+      on e t none q none r (at i) s =
+          rw (unfit-law, e, t, q, r, s)
+          (lets Refusal.NoSuchTask (pastIn m mask) past at-soon (past-place e) q
+          ∙ lets Refusal.ArrivalTooSoon (soonIn m mask) (w .soon) at-hyper soon-place r
+          ∙ refuses Refusal.ArrivalWhileHyper (hyperIn m mask) (w .hyper) i yes (below (whileHyper mask) (m .rows) (p .long)) hyper-place s)
+      on e t none q none r none s =
+          let ok : verdict m mask ≡ accepted = rw (e, t, q, r, s) in
+          rw (unfit-law, e, t, q, r, s)
+          (lets Refusal.NoSuchTask (pastIn m mask) past at-soon (past-place e) q
+          ∙ lets Refusal.ArrivalTooSoon (soonIn m mask) (w .soon) at-hyper soon-place r
+          ∙ lets Refusal.ArrivalWhileHyper (hyperIn m mask) (w .hyper) yes hyper-place s
+          ∙ ap Judged.Accepted (runs ok))
+
+      go : (x : Bool) → wellFormed m ≡ x → (y : Bool) → eqb (m .clock) (2 ^ 40) ≡ y
+          → judgedBy (m .clock) (m .count) mask w ≡ judgedAs m mask (verdict m mask)
+      go false e y f = rw (unfit-law, e)
+      go true e true f = rw (unfit-law, e, f)
+      go true e false f = on e f (pastIn m mask) refl (soonIn m mask) refl (hyperIn m mask) refl
+
+  -- what the step learns of the judgement
+  pub judged-refused : (x : Refusal) → judgedBy (m .clock) (m .count) mask w ≡ Judged.Refused x → verdict m mask ≡ refused x
+  judged-refused x h = go (verdict m mask) refl (sym judged-law ∙ h)
+    where
+      go : (v : Verdict) → verdict m mask ≡ v → judgedAs m mask (verdict m mask) ≡ Judged.Refused x → verdict m mask ≡ refused x
+      go (refused y) e q =
+          let a : Judged.Refused y ≡ Judged.Refused x = rw e at q in
+          let z : y ≡ x = cc in
+          rw (e, z)
       go accepted e q =
-          let t : turnsOf (m .clock) (m .count) mask (m .rows) ≡ turns = cc in
-          let c : place (chosen (turned (m .clock) mask (m .rows))) ≡ runs = cc in
-          let s = turns-stay e (sym t) in
-          record { ok = e; room = passed m mask e .room; long = l; few = s .0; rest = s .1; who = sym c }
+          let a : judgedAs m mask accepted ≡ Judged.Refused x = rw e at q in
+          let z : _≡_ {A = ℕ} 0 1 = cc in
+          absurd (omega arith)
 
--- a judgement that refuses says the verdict
-pub judged-refused : (m : Machine) (mask : ℕ) (x : Refusal) → judgedOf (m .clock) (m .count) mask (m .rows) ≡ Judged.Refused x → verdict m mask ≡ refused x
-unfolding judgedOf
-judged-refused m mask x h = go (verdict m mask) refl h
-  where
-    go : (v : Verdict) → verdict m mask ≡ v → judgedBy m mask v ≡ Judged.Refused x → v ≡ refused x
-    go (refused y) e q = let z : y ≡ x = cc in rw z
-    go accepted e q = let z : _≡_ {A = ℕ} 0 1 = cc in absurd (omega arith)
+  pub judged-taken : (runs : ℕ) → judgedBy (m .clock) (m .count) mask w ≡ Judged.Accepted runs
+      → (verdict m mask ≡ accepted) × (runs ≡ place (chosen (turned (m .clock) mask (m .rows))))
+  judged-taken runs h = go (verdict m mask) refl (sym judged-law ∙ h)
+    where
+      go : (v : Verdict) → verdict m mask ≡ v → judgedAs m mask (verdict m mask) ≡ Judged.Accepted runs
+          → (verdict m mask ≡ accepted) × (runs ≡ place (chosen (turned (m .clock) mask (m .rows))))
+      go (refused y) e q =
+          let a : Judged.Refused y ≡ Judged.Accepted runs = rw e at q in
+          let z : _≡_ {A = ℕ} 0 1 = cc in
+          absurd (omega arith)
+      go accepted e q =
+          let a : judgedAs m mask accepted ≡ Judged.Accepted runs = rw e at q in
+          let z : place (chosen (turned (m .clock) mask (m .rows))) ≡ runs = cc in
+          (e, sym z)
 
--- the judgement of an accepted tick, by what the pass found
-turns-cond : (a b : Bool) (x : ℕ) → cond (not a || not b) x 0 ≡ cond (b && a) 0 x
-turns-cond true true x = refl
-turns-cond true false x = refl
-turns-cond false true x = refl
-turns-cond false false x = refl
+  -- the tick is taken: the rows after steps 1 and 2, and who runs
+  module _ (runs : ℕ) (judged : judgedBy (m .clock) (m .count) mask w ≡ Judged.Accepted runs) where
+    pub ok : verdict m mask ≡ accepted
+    ok = judged-taken runs judged .0
 
-pub accepts : (m : Machine) (mask x : ℕ) (w : Seen) → length (m .rows) ≡ 32 → verdict m mask ≡ accepted
-    → w ≡ withArrivals (seenFrom (m .clock) 0 (m .rows)) 32 x (place (first (inMaskAt mask) (m .rows)))
-    → Judged.Accepted (cond (w .due || not (eqb mask 0)) (m .count) 0) (chosenBy w) ≡ judgedOf (m .clock) (m .count) mask (m .rows)
-unfolding judgedOf seenFrom
-accepts m mask x w l ok e =
-    let late : w .due ≡ not (isNone (first (due (m .clock)) (m .rows))) = ap (λ v. v .due) e in
-    let runs : chosenBy w ≡ place (chosen (turned (m .clock) mask (m .rows))) = rw e (chosen-law (m .clock) (m .count) mask x (m .rows) l (taking m mask ok)) in
-    rw (ok, runs, late, turns-cond (isNone (first (due (m .clock)) (m .rows))) (eqb mask 0) (m .count))
+    pub room : m .clock < 2 ^ 40
+    room = passed m mask ok .room
 
--- the loop: the first i rows are turned, the rows from turns on are as they were
-pub record Turning (m : Machine) (mask turns : ℕ) (rows : List Row) (i : ℕ) : Type 0 where
-  pub below : i ≤ turns
-  pub long : length rows ≡ 32
-  pub so-far : mapFrom (turnedRow (m .clock) mask) 0 (m .rows) ≡ take i rows ++ mapFrom (turnedRow (m .clock) mask) i (drop i rows)
-  pub rest : drop turns rows ≡ drop turns (m .rows)
+    pub turned-rows : next ≡ turned (m .clock) mask (m .rows)
+    turned-rows = p .so-far ∙ passed-rows (m .clock) (m .count) mask 0 (m .rows) (taking m mask ok) ∙ sym (turned-law (m .clock) mask (m .rows))
 
-module _ (m : Machine) (mask turns : ℕ) (rows : List Row) (i : ℕ) (few : turns ≤ 32) (lt : i < turns) (t : Turning m mask turns rows i) where
-  pub turn-stores : (q : Row) → q ≡ turnedRow (m .clock) mask i (getD rows i noRow) → Turning m mask turns (set rows i q) (i + 1)
-  turn-stores q e =
-      let in-rows : i < length rows = omega arith in
-      record {
-        below = omega arith;
-        long = simp length-set (t .long);
-        so-far = t .so-far ∙ map-step (turnedRow (m .clock) mask) rows i q in-rows e;
-        rest = drop-set-lt turns rows i q lt ∙ t .rest;
-      }
+    long-turned : length (turned (m .clock) mask (m .rows)) ≡ 32
+    long-turned = rw (turned-law (m .clock) mask (m .rows)) (map-length (turnedRow (m .clock) mask) (m .rows) 0) ∙ p .long
 
-  pub turn-keeps : turnedRow (m .clock) mask i (getD rows i noRow) ≡ getD rows i noRow → Turning m mask turns rows (i + 1)
-  turn-keeps e =
-      let in-rows : i < length rows = omega arith in
-      record {
-        below = omega arith;
-        long = t .long;
-        so-far = t .so-far ∙ map-skip (turnedRow (m .clock) mask) rows i in-rows e;
-        rest = t .rest;
-      }
+    found-below : (j : ℕ) → chosen (turned (m .clock) mask (m .rows)) ≡ at j → j < 32
+    found-below j e = let q = chosen-runs (turned (m .clock) mask (m .rows)) j e in omega (arith, long-turned)
 
--- after the loop
-module _ (m : Machine) (mask turns runs : ℕ) (rows : List Row) (i : ℕ) (a : Accepted m mask turns runs)
-    (t : Turning m mask turns rows i) (end : turns ≤ i) where
-  pub turned-rows : rows ≡ turned (m .clock) mask (m .rows)
-  turned-rows =
-      let z : i ≡ turns = omega (arith, t .below) in
-      let r : mapFrom (turnedRow (m .clock) mask) turns (drop turns rows) ≡ drop turns rows = rw (t .rest, a .rest) in
-      let q : mapFrom (turnedRow (m .clock) mask) 0 (m .rows) ≡ rows = rw (t .so-far, z, r) (take-append-drop turns rows) in
-      sym (turned-law (m .clock) mask (m .rows) ∙ q)
+    pub runs-at : runs < 32 → chosen (turned (m .clock) mask (m .rows)) ≡ at runs
+    runs-at h = place-found (chosen (turned (m .clock) mask (m .rows))) runs found-below (judged-taken runs judged .1) h
 
-  long-turned : length (turned (m .clock) mask (m .rows)) ≡ 32
-  long-turned = rw (← turned-rows) (t .long)
+    pub runs-none : 32 ≤ runs → chosen (turned (m .clock) mask (m .rows)) ≡ none
+    runs-none h = place-none (chosen (turned (m .clock) mask (m .rows))) runs found-below (judged-taken runs judged .1) h
 
-  found-below : (j : ℕ) → chosen (turned (m .clock) mask (m .rows)) ≡ at j → j < 32
-  found-below j e = let q = chosen-runs (turned (m .clock) mask (m .rows)) j e in omega (arith, long-turned)
-
-  pub runs-at : runs < 32 → chosen (turned (m .clock) mask (m .rows)) ≡ at runs
-  runs-at h = place-found (chosen (turned (m .clock) mask (m .rows))) runs found-below (a .who) h
-
-  pub runs-none : 32 ≤ runs → chosen (turned (m .clock) mask (m .rows)) ≡ none
-  runs-none h = place-none (chosen (turned (m .clock) mask (m .rows))) runs found-below (a .who) h
-
-  pub may-run : runs < 32 → (isHyper (getD rows runs noRow .stage) || hasBudget (getD rows runs noRow .c) (getD rows runs noRow .stage)) ≡ true
-  may-run h = rw turned-rows (chosen-runs (turned (m .clock) mask (m .rows)) runs (runs-at h) .1)
+    pub may-run : runs < 32 → (isHyper (getD next runs noRow .stage) || hasBudget (getD next runs noRow .c) (getD next runs noRow .stage)) ≡ true
+    may-run h = rw turned-rows (chosen-runs (turned (m .clock) mask (m .rows)) runs (runs-at h) .1)

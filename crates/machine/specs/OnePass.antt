@@ -1,18 +1,20 @@
 -- What the private functions of src/ find on their way over the rows, said by the searches of the tick rule. It is no second
 -- rule: the proofs tie it to TickRule and WellFormed, and no public function cites it. Assumes nothing.
-use Prim.Native.Nat.{ℕ, zero, suc, _+_, _-_}
-use mathlib.Core.Bool.{Bool, true, false, not, cond, _&&_}
-use mathlib.Core.List.{List, [], _∷_}
-use lib.Dec.{leb, ltb, eqb}
-use lib.ListN.{take}
+use Prim.Native.Nat.{ℕ, zero, suc, _+_, _-_, _^_}
+use mathlib.Core.Bool.{Bool, true, false, not, cond, _&&_, _||_}
+use mathlib.Core.List.{List}
+use lib.Dec.{ltb, eqb}
+use Rattle.refusals.specs.declared.Refusal.{Refusal}
 use Rattle.machine.specs.declared.Stage.{Stage}
 use Rattle.machine.specs.declared.Row.{Row}
 use Rattle.machine.specs.declared.Machine.{Machine}
+use Rattle.machine.specs.declared.Answer.{Answer}
+use Rattle.machine.specs.declared.Stepped.{Stepped}
 use Rattle.machine.specs.declared.Seen.{Seen}
 use Rattle.machine.specs.declared.Judged.{Judged}
-use Rattle.machine.specs.Rows.{inMask, age, Found, at, none, firstFrom, first, howMany, isHyper, hasBegun, hasBudget, withStage}
-use Rattle.machine.specs.WellFormed.{rowFits, stageFits, isBlank, begunRow}
-use Rattle.machine.specs.TickRule.{youngerThan, Verdict, refused, accepted, verdict, enforced, begun, turned, chosen}
+use Rattle.machine.specs.Rows.{inMask, age, Found, at, none, firstFrom, isHyper, hasBegun, hasBudget, withStage}
+use Rattle.machine.specs.WellFormed.{rowFits, fieldsFit, stageFits, isBlank}
+use Rattle.machine.specs.TickRule.{youngerThan, tooSoon, whileHyper, enforced, begun}
 
 -- what was found as a number: the place, or 32
 abbrev pub place : Found → ℕ
@@ -27,41 +29,56 @@ isNone none = true
 abbrev pub misplaced : ℕ → ℕ → ℕ → Row → Bool
 misplaced clock count i r = not (cond (ltb i count) (rowFits clock r) (isBlank r))
 
--- a Guest at its enforcement instant; a row that is Hyper, or has budget, after step 1
+-- one row after steps 1 and 2
+unfoldable pub turnedRow : ℕ → ℕ → ℕ → Row → Row
+turnedRow clock mask i r = withStage r (cond (inMask mask i) (Stage.Guest clock 0) (enforced clock (r .k) (r .e) (r .stage)))
+
+-- a Guest at its enforcement instant
 abbrev pub isDue : ℕ → ℕ → Stage → Bool
 isDue clock e Stage.Never = false
 isDue clock e (Stage.Guest arrival used) = eqb (age clock arrival) e
 isDue clock e (Stage.Hyper arrival left) = false
 isDue clock e (Stage.Closed arrival) = false
 
-abbrev pub due : ℕ → ℕ → Row → Bool
-due clock i r = isDue clock (r .e) (r .stage)
+-- 11 or 12 refuses the task's arrival
+abbrev pub mayNotArrive : ℕ → ℕ → Stage → Bool
+mayNotArrive clock t s = youngerThan clock t s || isHyper s
 
+-- a task of the table that is in the mask and may arrive
+abbrev pub arrives : ℕ → ℕ → ℕ → ℕ → Row → Bool
+arrives clock count mask i r = ltb i count && (inMask mask i && not (mayNotArrive clock (r .t) (r .stage)))
+
+-- the row as the pass leaves it: steps 1 and 2 where its task arrives or is due
+abbrev pub moves : ℕ → ℕ → ℕ → ℕ → Row → Bool
+moves clock count mask i r = arrives clock count mask i r || isDue clock (r .e) (r .stage)
+
+unfoldable pub passedRow : ℕ → ℕ → ℕ → ℕ → Row → Row
+passedRow clock count mask i r = cond (moves clock count mask i r) (turnedRow clock mask i r) r
+
+-- a row that is Hyper, or has budget, after steps 1 and 2
 abbrev pub willWait : ℕ → ℕ → Row → Bool
 willWait clock i r = isHyper (enforced clock (r .k) (r .e) (r .stage))
 
-abbrev pub willBeReady : ℕ → ℕ → Row → Bool
-willBeReady clock i r = hasBudget (r .c) (enforced clock (r .k) (r .e) (r .stage))
+abbrev pub willBeReady : ℕ → ℕ → ℕ → ℕ → Row → Bool
+willBeReady clock count mask i r = arrives clock count mask i r || hasBudget (r .c) (enforced clock (r .k) (r .e) (r .stage))
 
 -- The pass over the rows, from the last to the first
 
 -- before it, or where it found a place that isn't well formed
 abbrev pub nothingSeen : Bool → Seen
-nothingSeen unfit = record { unfit = unfit; due = false; count = 0; begun = 32; waiting = 32; ready = 32; soon = 32; hyper = 32; lowest = 32 }
+nothingSeen unfit = record { unfit = unfit; moved = false; begun = 32; waiting = 32; ready = 32; soon = 32; hyper = 32 }
 
 -- what the rows l, from place i on, show
-unfoldable pub seenFrom : ℕ → ℕ → List Row → Seen
-seenFrom clock i l =
+unfoldable pub seenFrom : ℕ → ℕ → ℕ → Bool → ℕ → List Row → Seen
+seenFrom clock count mask moved i l =
     record {
       unfit = false;
-      due = not (isNone (firstFrom (due clock) i l));
-      count = howMany begunRow l;
+      moved = moved;
       begun = place (firstFrom begun i l);
       waiting = place (firstFrom (willWait clock) i l);
-      ready = place (firstFrom (willBeReady clock) i l);
-      soon = 32;
-      hyper = 32;
-      lowest = 32;
+      ready = place (firstFrom (willBeReady clock count mask) i l);
+      soon = place (firstFrom (tooSoon mask clock) i l);
+      hyper = place (firstFrom (whileHyper mask) i l);
     }
 
 -- one row more, at place i, by its stage s
@@ -69,90 +86,67 @@ unfoldable pub stageSeen : ℕ → ℕ → Row → Stage → Seen → Seen
 stageSeen clock i r s w =
     record {
       unfit = w .unfit;
-      due = cond (isDue clock (r .e) s) true (w .due);
-      count = cond (hasBegun (r .k) s) (w .count + 1) (w .count);
+      moved = cond (isDue clock (r .e) s) true (w .moved);
       begun = cond (hasBegun (r .k) s) i (w .begun);
       waiting = cond (isHyper (enforced clock (r .k) (r .e) s)) i (w .waiting);
       ready = cond (hasBudget (r .c) (enforced clock (r .k) (r .e) s)) i (w .ready);
       soon = w .soon;
       hyper = w .hyper;
-      lowest = w .lowest;
     }
+
+-- a second hypertask that has begun
+abbrev pub secondBegun : ℕ → Stage → Seen → Bool
+secondBegun k s w = hasBegun k s && ltb (w .begun) 32
 
 abbrev pub stageOrUnfit : ℕ → ℕ → Row → Stage → Seen → Seen
-stageOrUnfit clock i r s w = cond (stageFits clock (r .c) (r .k) (r .e) s) (stageSeen clock i r s w) (nothingSeen true)
+stageOrUnfit clock i r s w =
+    cond (stageFits clock (r .c) (r .k) (r .e) s && not (secondBegun (r .k) s w)) (stageSeen clock i r s w) (nothingSeen true)
 
-abbrev pub rowOrUnfit : ℕ → ℕ → Row → Seen → Seen
-rowOrUnfit clock i r w = cond (rowFits clock r) (stageSeen clock i r (r .stage) w) (nothingSeen true)
-
--- The walk over the tasks in the mask, from the first to the last
-
--- what was found first stays
-abbrev pub firstKept : ℕ → ℕ → ℕ
-firstKept x i = cond (ltb x 32) x i
-
-abbrev pub withArrivals : Seen → ℕ → ℕ → ℕ → Seen
-withArrivals w soon hyper lowest =
+-- its task is in the mask
+unfoldable pub arrivalSeen : ℕ → ℕ → ℕ → Stage → Seen → Seen
+arrivalSeen clock i t s w =
     record {
       unfit = w .unfit;
-      due = w .due;
-      count = w .count;
+      moved = w .moved || not (mayNotArrive clock t s);
       begun = w .begun;
       waiting = w .waiting;
-      ready = w .ready;
-      soon = soon;
-      hyper = hyper;
-      lowest = lowest;
+      ready = cond (mayNotArrive clock t s) (w .ready) i;
+      soon = cond (youngerThan clock t s) i (w .soon);
+      hyper = cond (isHyper s) i (w .hyper);
     }
 
--- one task in the mask, at place i, that may arrive unless it is Hyper, and one that comes too soon
-abbrev pub arrivalSeen : ℕ → Stage → Seen → Seen
-arrivalSeen i s w = withArrivals w (w .soon) (cond (isHyper s) (firstKept (w .hyper) i) (w .hyper)) (firstKept (w .lowest) i)
+abbrev pub arrivalOn : ℕ → ℕ → ℕ → Row → Seen → Seen
+arrivalOn clock mask i r w = cond (inMask mask i) (arrivalSeen clock i (r .t) (r .stage) w) w
 
-abbrev pub soonSeen : ℕ → Seen → Seen
-soonSeen i w = withArrivals w i 32 32
+abbrev pub unmoved : Seen → Seen
+unmoved w = record { unfit = w .unfit; moved = false; begun = w .begun; waiting = w .waiting; ready = w .ready; soon = w .soon; hyper = w .hyper }
 
--- what the rows l, from place i on, add to it
-unfoldable pub arrivalsFrom : ℕ → ℕ → Seen → ℕ → List Row → Seen
-arrivalsFrom clock mask w i [] = w
-arrivalsFrom clock mask w i (r ∷ rs) =
-    cond (inMask mask i)
-    (cond (youngerThan clock (r .t) (r .stage)) (soonSeen i w) (arrivalsFrom clock mask (arrivalSeen i (r .stage) w) (suc i) rs))
-    (arrivalsFrom clock mask w (suc i) rs)
-
--- the whole pass
-unfoldable pub surveyOf : ℕ → ℕ → ℕ → List Row → Seen
-surveyOf clock count mask rows =
-    cond (leb count 32 && isNone (first (misplaced clock count) rows))
-    (arrivalsFrom clock mask (seenFrom clock 0 rows) 0 (take count rows)) (nothingSeen true)
+unfoldable pub rowSeen : ℕ → ℕ → ℕ → Row → Seen → Seen
+rowSeen clock mask i r w =
+    cond (fieldsFit r) (arrivalOn clock mask i r (stageOrUnfit clock i r (r .stage) (unmoved w))) (nothingSeen true)
 
 -- the lowest task in the mask of the k places from i on
 unfoldable pub pastFrom : ℕ → ℕ → ℕ → ℕ
 pastFrom mask i zero = 32
 pastFrom mask i (suc k) = cond (inMask mask i) i (pastFrom mask (suc i) k)
 
--- The verdict; where the tick is taken, how many rows steps 1 and 2 have to go over, and the place that step 3 chooses
+-- The verdict on what the pass found; where the tick is taken, the place that step 3 chooses
 
--- the place that runs: a begun hypertask, a waiting one, or the first ready guest, of which the lowest arrival is one
+-- a begun hypertask, a waiting one, or the first ready guest
 abbrev pub chosenBy : Seen → ℕ
-chosenBy w =
-    cond (ltb (w .begun) 32) (w .begun)
-    (cond (ltb (w .waiting) 32) (w .waiting) (cond (ltb (w .lowest) (w .ready)) (w .lowest) (w .ready)))
+chosenBy w = cond (ltb (w .begun) 32) (w .begun) (cond (ltb (w .waiting) 32) (w .waiting) (w .ready))
 
--- steps 1 and 2 change nothing where no task is in the mask and none is due
-abbrev pub turnsOf : ℕ → ℕ → ℕ → List Row → ℕ
-turnsOf clock count mask rows = cond (eqb mask 0 && isNone (first (due clock) rows)) 0 count
+abbrev pub orRefused : (ℕ → Refusal) → ℕ → Judged → Judged
+orRefused refusal x j = cond (ltb x 32) (Judged.Refused (refusal (x + 1))) j
 
-abbrev pub judgedBy : Machine → ℕ → Verdict → Judged
-judgedBy m mask (refused refusal) = Judged.Refused refusal
-judgedBy m mask accepted =
-    Judged.Accepted (turnsOf (m .clock) (m .count) mask (m .rows)) (place (chosen (turned (m .clock) mask (m .rows))))
+unfoldable pub judgedBy : ℕ → ℕ → ℕ → Seen → Judged
+judgedBy clock count mask w =
+    cond (ltb count 1 || (ltb 32 count || ltb (2 ^ 40) clock)) (Judged.Refused (Refusal.NotWellFormed 0))
+    (cond (eqb clock (2 ^ 40)) (Judged.Refused (Refusal.ClockAtEnd 0))
+    (orRefused Refusal.NoSuchTask (pastFrom mask count (32 - count))
+    (orRefused Refusal.ArrivalTooSoon (w .soon)
+    (orRefused Refusal.ArrivalWhileHyper (w .hyper) (Judged.Accepted (chosenBy w))))))
 
-unfoldable pub judgedOf : ℕ → ℕ → ℕ → List Row → Judged
-judgedOf clock count mask rows =
-    let m : Machine = record { rows = rows; count = count; clock = clock } in
-    judgedBy m mask (verdict m mask)
-
--- one row after steps 1 and 2
-unfoldable pub turnedRow : ℕ → ℕ → ℕ → Row → Row
-turnedRow clock mask i r = withStage r (cond (inMask mask i) (Stage.Guest clock 0) (enforced clock (r .k) (r .e) (r .stage)))
+-- the machine as it was given, and why
+abbrev pub refusedAs : Machine → Refusal → Stepped
+refusedAs m refusal = record { machine = m; answer = Answer.Refused refusal }

@@ -5,8 +5,8 @@ ghost use Prim.Native.Nat.{_+_, _-_, _<_, _≤_};
 ghost use Rattle.machine.specs.Rows.{age, inMask, withStage, isNever, isHyper, hasBudget};
 ghost use Rattle.machine.specs.WellFormed.{inLimits, fieldsFit, isBlank};
 ghost use Rattle.machine.specs.TickRule.{youngerThan, hypertaskRan, guestRan, nobodyRan, ranFrom, enforced, stepOf};
-ghost use Rattle.machine.specs.OnePass.{isDue, nothingSeen, stageOrUnfit, rowOrUnfit, firstKept, arrivalSeen, soonSeen};
-ghost use Rattle.machine.specs.OnePass.{surveyOf, pastFrom, chosenBy, judgedOf, turnedRow};
+ghost use Rattle.machine.specs.OnePass.{nothingSeen, stageOrUnfit, arrivalSeen, rowSeen, pastFrom, chosenBy, judgedBy, turnedRow};
+ghost use Rattle.machine.specs.OnePass.{refusedAs};
 use refusals::Refusal;
 
 // A task's stage, with its own data.
@@ -76,24 +76,23 @@ struct Outcome {
     taken: Taken,
 }
 
-// What the pass over the rows finds: how many hypertasks have begun, and of each search the first place, 32 where there
-// is none. The last three are about the tasks in the mask: one that comes too soon, one that is Hyper, the lowest.
+// What the pass over the rows finds: whether a place isn't well formed, whether steps 1 and 2 change the row that was seen
+// last, and of each search the first place, 32 where there is none. The last two are about the tasks in the mask: one that
+// comes too soon, one that is Hyper.
 struct Seen {
     unfit: bool,
-    due: bool,
-    count: usize,
+    moved: bool,
     begun: usize,
     waiting: usize,
     ready: usize,
     soon: usize,
     hyper: usize,
-    lowest: usize,
 }
 
-// A tick is refused, or taken: how many rows steps 1 and 2 go over, and the place of the task that runs, 32 for nobody.
+// A tick is refused, or taken: the place of the task that runs, 32 for nobody.
 enum Judged {
     Refused(Refusal),
-    Accepted(usize, usize),
+    Accepted(usize),
 }
 
 fn age_of(clock: u64, arrival: u64) -> u64
@@ -119,7 +118,16 @@ fn within(x: u32) -> bool
 fn fields_fit(r: Row) -> bool
     ensures { λ b. ⌜ b ≡ fieldsFit r ⌝ }
 {
-    (r.t <= 1_000_000) & ((r.d <= r.t) & ((r.e < r.d) & ((1 <= r.e) & (within(r.c) & within(r.k)))))
+    if 1_000_000 < r.t {
+        return false;
+    }
+    if r.t < r.d {
+        return false;
+    }
+    if r.d <= r.e {
+        return false;
+    }
+    (1 <= r.e) & (within(r.c) & within(r.k))
 }
 
 fn is_never(s: Stage) -> bool
@@ -145,14 +153,12 @@ fn nothing(unfit: bool) -> Seen
 {
     Seen {
         unfit: unfit,
-        due: false,
-        count: 0,
+        moved: false,
         begun: 32,
         waiting: 32,
         ready: 32,
         soon: 32,
         hyper: 32,
-        lowest: 32,
     }
 }
 
@@ -173,7 +179,7 @@ fn see_guest(mut w: Seen, clock: u64, i: usize, r: Row, a: u64, u: u64) -> Seen
         return nothing(true);
     }
     if old == e as u64 {
-        w.due = true;
+        w.moved = true;
         w.waiting = i;
         return w;
     }
@@ -183,9 +189,8 @@ fn see_guest(mut w: Seen, clock: u64, i: usize, r: Row, a: u64, u: u64) -> Seen
     w
 }
 
-// A Hyper at place i.
+// A Hyper at place i; no other may have begun beside one that has.
 fn see_hyper(mut w: Seen, clock: u64, i: usize, r: Row, a: u64, l: u64) -> Seen
-    requires { ⌜ w .count < 32 ⌝ }
     ensures { λ q. ⌜ q ≡ stageOrUnfit clock i r (Stage.Hyper a l) w ⌝ }
 {
     if clock < a {
@@ -204,14 +209,15 @@ fn see_hyper(mut w: Seen, clock: u64, i: usize, r: Row, a: u64, l: u64) -> Seen
     }
     w.waiting = i;
     if l < k as u64 {
-        w.count += 1;
+        if w.begun < 32 {
+            return nothing(true);
+        }
         w.begun = i;
     }
     w
 }
 
 fn see_stage(w: Seen, clock: u64, i: usize, r: Row, s: Stage) -> Seen
-    requires { ⌜ w .count < 32 ⌝ }
     ensures { λ q. ⌜ q ≡ stageOrUnfit clock i r s w ⌝ }
 {
     match s {
@@ -219,18 +225,6 @@ fn see_stage(w: Seen, clock: u64, i: usize, r: Row, s: Stage) -> Seen
         Stage::Guest(a, u) => see_guest(w, clock, i, r, a, u),
         Stage::Hyper(a, l) => see_hyper(w, clock, i, r, a, l),
         Stage::Closed(a) => { if a <= clock { w } else { nothing(true) } }
-    }
-}
-
-fn see_row(w: Seen, clock: u64, i: usize, r: Row) -> Seen
-    requires { ⌜ w .count < 32 ⌝ }
-    ensures { λ q. ⌜ q ≡ rowOrUnfit clock i r w ⌝ }
-{
-    let s = r.stage;
-    if fields_fit(r) {
-        see_stage(w, clock, i, r, s)
-    } else {
-        nothing(true)
     }
 }
 
@@ -256,77 +250,41 @@ fn is_hyper(s: Stage) -> bool
     }
 }
 
-fn kept(x: usize, i: usize) -> usize
-    ensures { λ r. ⌜ r ≡ firstKept x i ⌝ }
-{
-    if x < 32 { x } else { i }
-}
-
-// A task in the mask that may arrive, unless it is Hyper.
-fn see_arrival(mut w: Seen, i: usize, s: Stage) -> Seen
-    ensures { λ r. ⌜ r ≡ arrivalSeen i s w ⌝ }
-{
-    w.lowest = kept(w.lowest, i);
-    if is_hyper(s) {
-        w.hyper = kept(w.hyper, i);
-    }
-    w
-}
-
-// A task in the mask that comes too soon.
-fn see_soon(mut w: Seen, i: usize) -> Seen
-    ensures { λ r. ⌜ r ≡ soonSeen i w ⌝ }
-{
-    w.soon = i;
-    w.hyper = 32;
-    w.lowest = 32;
-    w
-}
-
 fn pick(b: bool, x: usize, y: usize) -> usize
     ensures { λ r. ⌜ r ≡ cond b x y ⌝ }
 {
     if b { x } else { y }
 }
 
-// The pass. It is one function since an array by value is copied at each call, and its loops end at count, which is not a
-// constant: a loop to 32 is unrolled, and the array taken apart.
-fn survey(clock: u64, count: usize, mask: u32, rows: [Row; 32]) -> Seen
-    ensures { λ r. ⌜ r ≡ surveyOf clock count mask rows ⌝ }
+// A task in the mask: one that comes neither too soon nor while it is Hyper arrives, and is ready.
+fn see_arrival(mut w: Seen, clock: u64, i: usize, t: u32, s: Stage) -> Seen
+    ensures { λ q. ⌜ q ≡ arrivalSeen clock i t s w ⌝ }
 {
-    if 32 < count {
+    let young = is_younger(clock, t, s);
+    let hyper = is_hyper(s);
+    let refused = young | hyper;
+    w.moved = w.moved | !refused;
+    w.ready = pick(refused, w.ready, i);
+    w.soon = pick(young, i, w.soon);
+    w.hyper = pick(hyper, i, w.hyper);
+    w
+}
+
+fn see_row(mut w: Seen, clock: u64, mask: u32, i: usize, r: Row) -> Seen
+    requires { ⌜ i < 32 ⌝ }
+    ensures { λ q. ⌜ q ≡ rowSeen clock mask i r w ⌝ }
+{
+    if !fields_fit(r) {
         return nothing(true);
     }
-    let mut i: usize = 32;
-    while count < i {
-        i -= 1;
-        let r = rows[i];
-        if !is_blank(r) {
-            return nothing(true);
-        }
+    let s = r.stage;
+    w.moved = false;
+    let v = see_stage(w, clock, i, r, s);
+    if named(mask, i) {
+        see_arrival(v, clock, i, r.t, s)
+    } else {
+        v
     }
-    let mut w = nothing(false);
-    while 0 < i {
-        i -= 1;
-        let r = rows[i];
-        w = see_row(w, clock, i, r);
-        if w.unfit {
-            return w;
-        }
-    }
-    let end = pick(mask == 0, 0, count);
-    while i < end {
-        if named(mask, i) {
-            let r = rows[i];
-            let s = r.stage;
-            if is_younger(clock, r.t, s) {
-                return see_soon(w, i);
-            }
-            w = see_arrival(w, i, s);
-        }
-        i += 1;
-    }
-    w
 }
 
 // The lowest task in the mask past the last row.
@@ -347,7 +305,7 @@ fn lowest_past(mask: u32, count: usize) -> usize
     32
 }
 
-// The place of the task that runs, after the arrivals: the lowest of them is ready.
+// The place of the task that runs.
 fn choose(w: Seen) -> usize
     ensures { λ r. ⌜ r ≡ chosenBy w ⌝ }
 {
@@ -357,19 +315,14 @@ fn choose(w: Seen) -> usize
     if w.waiting < 32 {
         return w.waiting;
     }
-    if w.lowest < w.ready {
-        w.lowest
-    } else {
-        w.ready
-    }
+    w.ready
 }
 
-// Refusals 8 to 12, in their order.
-fn judge(clock: u64, count: usize, mask: u32, rows: [Row; 32]) -> Judged
-    ensures { λ r. ⌜ r ≡ judgedOf clock count mask rows ⌝ }
+// Refusals 8 to 12, in their order, where every place is well formed by itself.
+fn judge(clock: u64, count: usize, mask: u32, w: Seen) -> Judged
+    ensures { λ r. ⌜ r ≡ judgedBy clock count mask w ⌝ }
 {
-    let w = survey(clock, count, mask, rows);
-    if w.unfit | ((1 < w.count) | ((count < 1) | (1_099_511_627_776 < clock))) {
+    if (count < 1) | ((32 < count) | (1_099_511_627_776 < clock)) {
         return Judged::Refused(Refusal::NotWellFormed(0));
     }
     if clock == 1_099_511_627_776 {
@@ -385,20 +338,7 @@ fn judge(clock: u64, count: usize, mask: u32, rows: [Row; 32]) -> Judged
     if w.hyper < 32 {
         return Judged::Refused(Refusal::ArrivalWhileHyper(w.hyper + 1));
     }
-    Judged::Accepted(pick(w.due | (mask != 0), count, 0), choose(w))
-}
-
-fn is_due(clock: u64, r: Row) -> bool
-    ensures { λ b. ⌜ b ≡ isDue clock (r .e) (r .stage) ⌝ }
-{
-    let e = r.e;
-    let s = r.stage;
-    match s {
-        Stage::Never => false,
-        Stage::Guest(a, _) => age_of(clock, a) == e as u64,
-        Stage::Hyper(_, _) => false,
-        Stage::Closed(_) => false,
-    }
+    Judged::Accepted(choose(w))
 }
 
 fn enforce(clock: u64, k: u32, e: u32, s: Stage) -> Stage
@@ -539,27 +479,50 @@ fn run(task: usize, signal: u8, early: bool, r: Row) -> Outcome
     }
 }
 
+fn refuse(m: Machine, refusal: Refusal) -> Stepped
+    ensures { λ r. ⌜ r ≡ refusedAs m refusal ⌝ }
+{
+    Stepped {
+        machine: m,
+        answer: Answer::Refused(refusal),
+    }
+}
+
 impl Machine {
-    // One tick: the next machine and the answer; a refused tick returns the machine it was given.
+    // One tick: the next machine and the answer; a refused tick returns the machine it was given. The pass stands here, and
+    // each end returns by itself, since an array by value is copied at each call and each join. Its loops end at count, which
+    // is not a constant: a loop to 32 is unrolled, and the array taken apart.
     pub fn step(self, mask: u32, signal: u8, early: bool) -> Stepped
         ensures { λ r. ⌜ r ≡ stepOf self mask signal early ⌝ }
     {
-        let rows = self.rows;
-        match judge(self.clock, self.count, mask, rows) {
-            Judged::Refused(refusal) => Stepped {
-                machine: self,
-                answer: Answer::Refused(refusal),
-            },
-            Judged::Accepted(turns, place) => {
-                let mut next = self.rows;
-                let mut i: usize = 0;
-                while i < turns {
-                    let r = next[i];
-                    if named(mask, i) | is_due(self.clock, r) {
-                        next[i] = turn(self.clock, mask, i, r);
-                    }
-                    i += 1;
-                }
+        let clock = self.clock;
+        let count = self.count;
+        let mut next = self.rows;
+        let mut i: usize = 32;
+        while count < i {
+            i -= 1;
+            let r = next[i];
+            if !is_blank(r) {
+                return refuse(self, Refusal::NotWellFormed(0));
+            }
+        }
+        let mut w = nothing(false);
+        while 0 < i {
+            i -= 1;
+            let r = next[i];
+            w = see_row(w, clock, mask, i, r);
+            if w.unfit {
+                return refuse(self, Refusal::NotWellFormed(0));
+            }
+            if w.moved {
+                next[i] = turn(clock, mask, i, r);
+            }
+        }
+        match judge(clock, count, mask, w) {
+            Judged::Refused(refusal) => {
+                return refuse(self, refusal);
+            }
+            Judged::Accepted(place) => {
                 let mut taken = nobody(signal);
                 if place < 32 {
                     let r = next[place];
@@ -568,14 +531,14 @@ impl Machine {
                     next[place] = staged(r, s);
                     taken = o.taken;
                 }
-                Stepped {
+                return Stepped {
                     machine: Machine {
                         rows: next,
-                        count: self.count,
-                        clock: self.clock + 1,
+                        count: count,
+                        clock: clock + 1,
                     },
                     answer: Answer::Taken(taken),
-                }
+                };
             }
         }
     }

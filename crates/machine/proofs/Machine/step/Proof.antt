@@ -1,154 +1,290 @@
 use borrow.Author.Needs.{needs}
-use Rattle.machine.proofs.Turns.{turned-rows, runs-at, runs-none, may-run}
-use Rattle.machine.proofs.Turns.{Accepted, Turning, judged, judged-refused, turn-stores, turn-keeps, row-stays}
+use Rattle.machine.proofs.Turns.{judged-refused, ok, room, turned-rows, runs-at, runs-none, may-run}
+use Rattle.machine.proofs.Pass.{Passing, pass-begins, pass-blank, not-blank, reads, unfit-at, pass-stores, pass-keeps}
+use Rattle.machine.proofs.Verdicts.{verdict-unfit}
+use Rattle.machine.specs.OnePass.{nothingSeen, turnedRow, rowSeen}
 use Rattle.machine.specs.TickRule.{taken, stepOf}
+use Rattle.machine.specs.WellFormed.{isBlank}
 use Rattle.machine.specs.Rows.{noRow}
-use lib.ListN.{length, length-map, getD}
+use borrow.Author.Tests.{not-true, not-false}
+use lib.ListN.{length, length-map, length-set, getD}
 use native.Mathlib.Omega.{arith}
-use Prim.Native.Nat.{_-_}
+use Prim.Native.Nat.{_-_, _≤_}
 use mathlib.Core.Logic.{⊎-elim}
-use mathlib.Core.Path.{_≡_, refl, _∙_, sym}
+use mathlib.Core.Bool.{true, false}
+use mathlib.Core.Path.{_≡_, _∙_, sym, ap}
 use Rattle.machine.proofs.Machine.step.Statement.{statement}
 use Rattle.machine.proofs.Machine.step.Tie as tie
 use Rattle.machine.proofs.Machine.step.Reads as reads
 use Rattle.machine.proofs.Machine.step.Lts as lts
-use Rattle.machine.proofs.is_due.Reads as is-due-reads
+use Rattle.machine.proofs.is_blank.Reads as is-blank-reads
 use Rattle.machine.proofs.judge.Reads as judge-reads
-use Rattle.machine.proofs.named.Reads as named-reads
 use Rattle.machine.proofs.nobody.Reads as nobody-reads
+use Rattle.machine.proofs.nothing.Reads as nothing-reads
+use Rattle.machine.proofs.refuse.Reads as refuse-reads
 use Rattle.machine.proofs.run.Reads as run-reads
+use Rattle.machine.proofs.see_row.Reads as see-row-reads
 use Rattle.machine.proofs.staged.Reads as staged-reads
 use Rattle.machine.proofs.turn.Reads as turn-reads
 
 abbrev Inv-loop : tie.InvT-loop
-Inv-loop self mask signal early turns place next₀ i₀ next i = Accepted self mask turns place × Turning self mask turns next i
+Inv-loop self mask signal early clock count next i₀ i = (i ≤ 32) × Passing self mask i (nothingSeen false) next
 
 abbrev μ-loop : tie.MeasureT-loop
-μ-loop self mask signal early turns place next₀ i₀ next i = 32 - i
+μ-loop self mask signal early clock count next i₀ i = i
 
-judge-requires : tie.Need-judge-requires Inv-loop μ-loop
-judge-requires c κs = search needs
+abbrev Inv-loop2 : tie.InvT-loop2
+Inv-loop2 self mask signal early clock count next₀ i₀ w₀ next i w = (i ≤ self .count) × (i ≤ 32) × (length next ≡ 32) × Passing self mask i w next
 
-enum-known-refusal : tie.Need-enum-known-refusal Inv-loop μ-loop
-enum-known-refusal c = search needs
+abbrev μ-loop2 : tie.MeasureT-loop2
+μ-loop2 self mask signal early clock count next₀ i₀ w₀ next i w = i
 
-enum-known-turns : tie.Need-enum-known-turns Inv-loop μ-loop
-enum-known-turns c = search needs
-
-loop-holds : tie.Need-loop-holds Inv-loop μ-loop
+-- src/lib.rt:502:9
+loop-holds : tie.Need-loop-holds Inv-loop μ-loop Inv-loop2 μ-loop2
 loop-holds c =
-    let s = c .before .before .before .before .before .before in
+    let s = c .before in
     let m = s .args .self in
     let l : length (m .rows) ≡ 32 = sym (length-map (m .rows) _) ∙ s .good .0 .1 .1 .0 .1 .0 .1 in
-    let g = c .before .before .turns .given in
-    let a = judged m (s .args .mask) (g .0 .0) (g .0 .1 .0) l (sym (c .before .before .before .before .judge .ensures) ∙ g .1) in
-    (a, record { below = omega arith; long = l; so-far = refl; rest = refl })
+    (omega arith, pass-begins m (s .args .mask) l)
 
-mul-r : tie.Need-mul-r Inv-loop μ-loop
+-- src/lib.rt:503:13
+sub-i : tie.Need-sub-i Inv-loop μ-loop Inv-loop2 μ-loop2
+sub-i c = omega arith
+
+-- src/lib.rt:504:21
+mul-r : tie.Need-mul-r Inv-loop μ-loop Inv-loop2 μ-loop2
 mul-r c = omega arith
 
-array-copy-out-r : tie.Need-array-copy-out-r Inv-loop μ-loop
+-- src/lib.rt:504:21
+array-copy-out-r : tie.Need-array-copy-out-r Inv-loop μ-loop Inv-loop2 μ-loop2
 array-copy-out-r c = omega arith
 
-named-requires : tie.Need-named-requires Inv-loop μ-loop
-named-requires c κs = omega arith
+-- src/lib.rt:505:17
+is-blank-requires : tie.Need-is-blank-requires Inv-loop μ-loop Inv-loop2 μ-loop2
+is-blank-requires c κs = search needs
 
-is-due-requires : tie.Need-is-due-requires Inv-loop μ-loop
-is-due-requires c κs = search needs
+-- src/lib.rt:506:17
+refuse-requires : tie.Need-refuse-requires Inv-loop μ-loop Inv-loop2 μ-loop2
+refuse-requires c κs = search needs
 
-turn-requires : tie.Need-turn-requires Inv-loop μ-loop
-turn-requires c κs = omega arith
-
-mul-next : tie.Need-mul-next Inv-loop μ-loop
-mul-next c = omega arith
-
-array-set-from-next : tie.Need-array-set-from-next Inv-loop μ-loop
-array-set-from-next c = omega arith
-
-add-i : tie.Need-add-i Inv-loop μ-loop
-add-i c = omega arith
-
-loop-less : tie.Need-loop-less Inv-loop μ-loop
-loop-less c = omega arith
-
-loop-again : tie.Need-loop-again Inv-loop μ-loop
-loop-again c =
-    let p = c .before .before .before .before .before in
-    let s = p .before .before .before .before .before .before .before in
-    let m = s .args .self in
-    let a = p .loop .inv .0 in
-    let t = p .loop .inv .1 in
-    let turns = p .before .before .before .turns .given .0 .0 in
-    let mask = s .args .mask in
-    ⊎-elim
-    (λ x. rw (x .2) (a, turn-stores m mask turns (p .loop .next) (p .loop .i) (a .few) (omega arith) t (x .1 .result) (x .1 .ensures)))
-    (λ x. rw (x .1) (
-      a,
-      turn-keeps m mask turns (p .loop .next) (p .loop .i) (a .few) (omega arith) t
-          (row-stays (m .clock) mask (p .loop .i) (getD (p .loop .next) (p .loop .i) noRow)
-          (rw (c .before .before .named .ensures, c .before .is-due .ensures) at (x .0 .left))),
-    ))
-    (c .if1 .came)
-
-nobody-requires : tie.Need-nobody-requires Inv-loop μ-loop
-nobody-requires c κs = search needs
-
-mul-r-2 : tie.Need-mul-r-2 Inv-loop μ-loop
-mul-r-2 c = omega arith
-
-array-copy-out-r-2 : tie.Need-array-copy-out-r-2 Inv-loop μ-loop
-array-copy-out-r-2 c = omega arith
-
-add-run : tie.Need-add-run Inv-loop μ-loop
-add-run c = omega arith
-
-run-requires : tie.Need-run-requires Inv-loop μ-loop
-run-requires c κs =
-    let p = c .before .before .before .before in
-    let s = p .before .before .before .before .before .before .before in
-    let g = p .before .before .before .turns .given .0 in
-    let a = p .loop .inv .0 in
-    let t = p .loop .inv .1 in
-    may-run (s .args .self) (s .args .mask) (g .0) (g .1 .0) (p .loop .next) (p .loop .i) a t (omega arith) (c .before .if2 .taken)
-
-staged-requires : tie.Need-staged-requires Inv-loop μ-loop
-staged-requires c κs = search needs
-
-mul-next-2 : tie.Need-mul-next-2 Inv-loop μ-loop
-mul-next-2 c = omega arith
-
-array-set-from-next-2 : tie.Need-array-set-from-next-2 Inv-loop μ-loop
-array-set-from-next-2 c = omega arith
-
-add-t38 : tie.Need-add-t38 Inv-loop μ-loop
-add-t38 c = omega (arith, c .before .before .before .before .loop .inv .0 .room)
-
-returns : tie.Need-returns Inv-loop μ-loop
+-- src/lib.rt:506:17
+returns : tie.Need-returns Inv-loop μ-loop Inv-loop2 μ-loop2
 unfolding stepOf
 returns c =
-    let s = c .before .before .before .before .before in
-    let g = c .before .refusal .given in
-    rw (judged-refused (s .args .self) (s .args .mask) (g .0 .0) (sym (c .before .before .before .judge .ensures) ∙ g .1))
+    let p = c .before .before .before .before .before in
+    let a = p .before .before .args in
+    let i = p .loop .i in
+    let off : isBlank (getD (a .self .rows) (i - 1) noRow) ≡ false = sym (c .before .before .is-blank .ensures) ∙ not-true _ (c .before .if1 .taken) in
+    let bad = not-blank (a .self) (a .mask) i (nothingSeen false) (a .self .rows) (omega arith) (omega arith) (p .loop .inv .1) (omega arith) off in
+    rw (verdict-unfit (a .self) (a .mask) bad) (c .refuse .ensures)
 
-returns-2 : tie.Need-returns-2 Inv-loop μ-loop
-unfolding stepOf taken
-returns-2 c =
+-- src/lib.rt:502:9
+loop-less : tie.Need-loop-less Inv-loop μ-loop Inv-loop2 μ-loop2
+loop-less c = omega arith
+
+-- src/lib.rt:502:9
+loop-again : tie.Need-loop-again Inv-loop μ-loop Inv-loop2 μ-loop2
+loop-again c =
     let p = c .before .before .before .before in
-    let s = p .before .before .before .before .before .before .before in
-    let m = s .args .self in
-    let mask = s .args .mask in
-    let g = p .before .before .before .turns .given .0 in
-    let a = p .loop .inv .0 in
-    let t = p .loop .inv .1 in
-    let rows = turned-rows m mask (g .0) (g .1 .0) (p .loop .next) (p .loop .i) a t (omega arith) in
+    let a = p .before .before .args in
+    let i = p .loop .i in
+    let blank : isBlank (getD (a .self .rows) (i - 1) noRow) ≡ true = sym (c .before .is-blank .ensures) ∙ not-false _ (c .if1 .left) in
+    (omega arith, pass-blank (a .self) (a .mask) i (a .self .rows) (omega arith) (omega arith) (p .loop .inv .1) blank)
+
+-- src/lib.rt:509:13
+nothing-requires : tie.Need-nothing-requires Inv-loop μ-loop Inv-loop2 μ-loop2
+nothing-requires c κs = search needs
+
+-- src/lib.rt:510:9
+loop2-holds : tie.Need-loop2-holds Inv-loop μ-loop Inv-loop2 μ-loop2
+loop2-holds c =
+    let p = c .before .before in
+    (omega arith, omega arith, p .loop .inv .1 .long, rw (c .nothing .ensures) (p .loop .inv .1))
+
+-- src/lib.rt:511:13
+sub-i-2 : tie.Need-sub-i-2 Inv-loop μ-loop Inv-loop2 μ-loop2
+sub-i-2 c = omega arith
+
+-- src/lib.rt:512:21
+mul-r-2 : tie.Need-mul-r-2 Inv-loop μ-loop Inv-loop2 μ-loop2
+mul-r-2 c = omega arith
+
+-- src/lib.rt:512:21
+array-copy-out-r-2 : tie.Need-array-copy-out-r-2 Inv-loop μ-loop Inv-loop2 μ-loop2
+array-copy-out-r-2 c = omega arith
+
+-- src/lib.rt:513:13
+see-row-requires : tie.Need-see-row-requires Inv-loop μ-loop Inv-loop2 μ-loop2
+see-row-requires c κs = omega arith
+
+-- src/lib.rt:515:17
+refuse-requires-2 : tie.Need-refuse-requires-2 Inv-loop μ-loop Inv-loop2 μ-loop2
+refuse-requires-2 c κs = search needs
+
+-- src/lib.rt:515:17
+returns-2 : tie.Need-returns-2 Inv-loop μ-loop Inv-loop2 μ-loop2
+unfolding stepOf
+returns-2 c =
+    let p = c .before .before .before .before .before in
+    let a = p .before .before .before .before .before .args in
+    let i = p .loop2 .i in
+    let v = p .loop2 .inv in
+    let same = reads (a .self) (a .mask) i (p .loop2 .w) (p .loop2 .next) (omega arith) (v .1) (v .3) in
+    let e = c .before .before .see-row .ensures ∙ ap (λ r. rowSeen (a .self .clock) (a .mask) (i - 1) r (p .loop2 .w)) same in
+    let bad = unfit-at (a .self) (a .mask) i (p .loop2 .w) (p .loop2 .next) (omega arith) (v .1) (v .3) (v .0) (sym (ap (λ x. x .unfit) e) ∙ c .before .if2 .taken) in
+    rw (verdict-unfit (a .self) (a .mask) bad) (c .refuse2 .ensures)
+
+-- src/lib.rt:518:27
+turn-requires : tie.Need-turn-requires Inv-loop μ-loop Inv-loop2 μ-loop2
+turn-requires c κs = omega arith
+
+-- src/lib.rt:518:17
+mul-next : tie.Need-mul-next Inv-loop μ-loop Inv-loop2 μ-loop2
+mul-next c = omega arith
+
+-- src/lib.rt:518:17
+array-set-from-next : tie.Need-array-set-from-next Inv-loop μ-loop Inv-loop2 μ-loop2
+array-set-from-next c = omega arith
+
+-- src/lib.rt:510:9
+loop2-less : tie.Need-loop2-less Inv-loop μ-loop Inv-loop2 μ-loop2
+loop2-less c = omega arith
+
+-- src/lib.rt:510:9
+loop2-again : tie.Need-loop2-again Inv-loop μ-loop Inv-loop2 μ-loop2
+loop2-again c =
+    let p = c .before .before .before .before .before .before in
+    let a = p .before .before .before .before .before .args in
+    let i = p .loop2 .i in
+    let v = p .loop2 .inv in
+    let same = reads (a .self) (a .mask) i (p .loop2 .w) (p .loop2 .next) (omega arith) (v .1) (v .3) in
+    let s = c .before .before .before .see-row in
+    let e = s .ensures ∙ ap (λ r. rowSeen (a .self .clock) (a .mask) (i - 1) r (p .loop2 .w)) same in
+    let f = c .turn .ensures ∙ ap (turnedRow (a .self .clock) (a .mask) (i - 1)) same in (
+      omega arith,
+      omega arith,
+      simp length-set (v .2),
+      pass-stores (a .self) (a .mask) i (p .loop2 .w) (p .loop2 .next) (omega arith) (v .0) (v .1) (v .3) (s .result) e (c .before .before .if2 .left)
+          (c .turn .result) (c .before .if3 .taken) f,
+    )
+
+-- src/lib.rt:510:9
+loop2-less-2 : tie.Need-loop2-less-2 Inv-loop μ-loop Inv-loop2 μ-loop2
+loop2-less-2 c = omega arith
+
+-- src/lib.rt:510:9
+loop2-again-2 : tie.Need-loop2-again-2 Inv-loop μ-loop Inv-loop2 μ-loop2
+loop2-again-2 c =
+    let p = c .before .before .before .before .before in
+    let a = p .before .before .before .before .before .args in
+    let i = p .loop2 .i in
+    let v = p .loop2 .inv in
+    let same = reads (a .self) (a .mask) i (p .loop2 .w) (p .loop2 .next) (omega arith) (v .1) (v .3) in
+    let s = c .before .before .see-row in
+    let e = s .ensures ∙ ap (λ r. rowSeen (a .self .clock) (a .mask) (i - 1) r (p .loop2 .w)) same in (
+      omega arith,
+      omega arith,
+      v .2,
+      pass-keeps (a .self) (a .mask) i (p .loop2 .w) (p .loop2 .next) (omega arith) (v .0) (v .1) (v .3) (s .result) e (c .before .if2 .left) (c .if3 .left),
+    )
+
+-- src/lib.rt:521:15
+judge-requires : tie.Need-judge-requires Inv-loop μ-loop Inv-loop2 μ-loop2
+judge-requires c κs = search needs
+
+-- src/lib.rt:522:29
+enum-known-refusal : tie.Need-enum-known-refusal Inv-loop μ-loop Inv-loop2 μ-loop2
+enum-known-refusal c = search needs
+
+-- src/lib.rt:523:17
+refuse-requires-3 : tie.Need-refuse-requires-3 Inv-loop μ-loop Inv-loop2 μ-loop2
+refuse-requires-3 c κs = search needs
+
+-- src/lib.rt:523:17
+returns-3 : tie.Need-returns-3 Inv-loop μ-loop Inv-loop2 μ-loop2
+unfolding stepOf
+returns-3 c =
+    let p = c .before .before .before .before .before .before in
+    let a = p .before .before .before .before .before .args in
+    let z : p .loop2 .i ≡ 0 = omega arith in
+    let done : Passing (a .self) (a .mask) 0 (p .loop2 .w) (p .loop2 .next) = rw z at (p .loop2 .inv .3) in
+    let g = c .before .before .refusal .given in
+    let j = sym (c .before .before .before .before .judge .ensures) ∙ g .1 in
+    rw (judged-refused (a .self) (a .mask) (p .loop2 .w) (p .loop2 .next) done (g .0 .0) j) (c .refuse3 .ensures)
+
+-- src/lib.rt:525:30
+enum-known-place : tie.Need-enum-known-place Inv-loop μ-loop Inv-loop2 μ-loop2
+enum-known-place c = search needs
+
+-- src/lib.rt:526:21
+nobody-requires : tie.Need-nobody-requires Inv-loop μ-loop Inv-loop2 μ-loop2
+nobody-requires c κs = search needs
+
+-- src/lib.rt:528:29
+mul-r-3 : tie.Need-mul-r-3 Inv-loop μ-loop Inv-loop2 μ-loop2
+mul-r-3 c = omega arith
+
+-- src/lib.rt:528:29
+array-copy-out-r-3 : tie.Need-array-copy-out-r-3 Inv-loop μ-loop Inv-loop2 μ-loop2
+array-copy-out-r-3 c = omega arith
+
+-- src/lib.rt:529:33
+add-run : tie.Need-add-run Inv-loop μ-loop Inv-loop2 μ-loop2
+add-run c = omega arith
+
+-- src/lib.rt:529:25
+run-requires : tie.Need-run-requires Inv-loop μ-loop Inv-loop2 μ-loop2
+run-requires c κs =
+    let p = c .before .before .before .before .before .before .before .before in
+    let a = p .before .before .before .before .before .args in
+    let z : p .loop2 .i ≡ 0 = omega arith in
+    let done : Passing (a .self) (a .mask) 0 (p .loop2 .w) (p .loop2 .next) = rw z at (p .loop2 .inv .3) in
+    let g = c .before .before .before .before .place .given in
+    let j = sym (c .before .before .before .before .before .before .judge .ensures) ∙ g .1 in
+    may-run (a .self) (a .mask) (p .loop2 .w) (p .loop2 .next) done (g .0 .0) j (c .before .if4 .taken)
+
+-- src/lib.rt:531:35
+staged-requires : tie.Need-staged-requires Inv-loop μ-loop Inv-loop2 μ-loop2
+staged-requires c κs = search needs
+
+-- src/lib.rt:531:21
+mul-next-2 : tie.Need-mul-next-2 Inv-loop μ-loop Inv-loop2 μ-loop2
+mul-next-2 c = omega arith
+
+-- src/lib.rt:531:21
+array-set-from-next-2 : tie.Need-array-set-from-next-2 Inv-loop μ-loop Inv-loop2 μ-loop2
+array-set-from-next-2 c = omega arith
+
+-- src/lib.rt:538:32
+add-t44 : tie.Need-add-t44 Inv-loop μ-loop Inv-loop2 μ-loop2
+add-t44 c =
+    let p = c .before .before .before .before .before .before .before in
+    let a = p .before .before .before .before .before .args in
+    let z : p .loop2 .i ≡ 0 = omega arith in
+    let done : Passing (a .self) (a .mask) 0 (p .loop2 .w) (p .loop2 .next) = rw z at (p .loop2 .inv .3) in
+    let g = c .before .before .before .place .given in
+    let j = sym (c .before .before .before .before .before .judge .ensures) ∙ g .1 in
+    omega (arith, room (a .self) (a .mask) (p .loop2 .w) (p .loop2 .next) done (g .0 .0) j)
+
+-- src/lib.rt:534:17
+returns-4 : tie.Need-returns-4 Inv-loop μ-loop Inv-loop2 μ-loop2
+unfolding stepOf taken
+returns-4 c =
+    let p = c .before .before .before .before .before .before .before in
+    let a = p .before .before .before .before .before .args in
+    let m = a .self in
+    let w = p .loop2 .w in
+    let next = p .loop2 .next in
+    let z : p .loop2 .i ≡ 0 = omega arith in
+    let done : Passing m (a .mask) 0 w next = rw z at (p .loop2 .inv .3) in
+    let g = c .before .before .before .place .given in
+    let j = sym (c .before .before .before .before .before .judge .ensures) ∙ g .1 in
+    let yes = ok m (a .mask) w next done (g .0 .0) j in
+    let rows = turned-rows m (a .mask) w next done (g .0 .0) j in
     ⊎-elim
-    (λ x.
-    let who = runs-at m mask (g .0) (g .1 .0) (p .loop .next) (p .loop .i) a t (omega arith) (x .0 .taken) in
-    rw (x .5, x .6, a .ok, who, x .3 .ensures, x .2 .ensures, rows))
-    (λ x.
-    let who = runs-none m mask (g .0) (g .1 .0) (p .loop .next) (p .loop .i) a t (omega arith) (x .0 .left) in
-    rw (x .1, x .2, a .ok, who, c .before .before .nobody .ensures, rows))
-    (c .before .if2 .came)
+    (λ x. rw (x .5, x .6, yes, runs-at m (a .mask) w next done (g .0 .0) j (x .0 .taken), x .3 .ensures, x .2 .ensures, rows))
+    (λ x. rw (x .1, x .2, yes, runs-none m (a .mask) w next done (g .0 .0) j (x .0 .left), c .before .nobody .ensures, rows))
+    (c .if4 .came)
 
 pub step-spec : {M : Type 1} → statement M
 step-spec =
@@ -156,28 +292,44 @@ step-spec =
     (tie.spec
     Inv-loop
     μ-loop
-    judge-requires
-    enum-known-refusal
-    enum-known-turns
+    Inv-loop2
+    μ-loop2
     loop-holds
+    sub-i
     mul-r
     array-copy-out-r
-    named-requires
-    is-due-requires
+    is-blank-requires
+    refuse-requires
+    returns
+    loop-less
+    loop-again
+    nothing-requires
+    loop2-holds
+    sub-i-2
+    mul-r-2
+    array-copy-out-r-2
+    see-row-requires
+    refuse-requires-2
+    returns-2
     turn-requires
     mul-next
     array-set-from-next
-    add-i
-    loop-less
-    loop-again
+    loop2-less
+    loop2-again
+    loop2-less-2
+    loop2-again-2
+    judge-requires
+    enum-known-refusal
+    refuse-requires-3
+    returns-3
+    enum-known-place
     nobody-requires
-    mul-r-2
-    array-copy-out-r-2
+    mul-r-3
+    array-copy-out-r-3
     add-run
     run-requires
     staged-requires
     mul-next-2
     array-set-from-next-2
-    add-t38
-    returns
-    returns-2)
+    add-t44
+    returns-4)
