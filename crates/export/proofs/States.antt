@@ -20,7 +20,8 @@ use Rattle.machine.specs.declared.Stage.{Stage}
 use Rattle.machine.specs.declared.Row.{Row}
 use Rattle.machine.specs.declared.Machine.{Machine}
 use Rattle.plan.proofs.Tests.{or-inv}
-use Rattle.export.specs.State.{placeNumbers, stateOf, stageIn, numberIn, rowIn, machineIn, unreadable, isNone, readable, readOf}
+use Rattle.export.specs.declared.state.Head.{Head}
+use Rattle.export.specs.State.{placeNumbers, stateOf, stageIn, numberIn, rowIn, machineIn, unreadable, isNone, readable, headOf, readOf}
 
 -- ## To numbers
 
@@ -126,17 +127,42 @@ pub places-all : (l : List ℕ) (rows : List Row) (i : ℕ) → i ≡ 32 → row
 places-all l rows i h e =
     e ∙ ap (λ (x : ℕ). listOf (rowIn l) x ++ replicate (32 - x) noRow) h ∙ append-nil (listOf (rowIn l) 32)
 
-pub machine-is : (l : List ℕ) (rows : List Row) → rows ≡ listOf (rowIn l) 32 → record { rows = rows; count = getD l 0 0; clock = getD l 1 0 } ≡ machineIn l
-unfolding machineIn
-machine-is l rows e = rw e
-
 -- ## Read or not
 
-pub read-ok : (l : List ℕ) (m : Machine) → readable l ≡ true → m ≡ machineIn l → record { ok = true; machine = m } ≡ readOf l
-unfolding readOf
-read-ok l m h e = rw (h, e)
+pub head-ok : (l : List ℕ) → readable l ≡ true → record { ok = true; places = 32; count = getD l 0 0; clock = getD l 1 0 } ≡ headOf l
+unfolding headOf
+head-ok l h = rw h
 
-pub read-not : (l : List ℕ) (r : Row) → readable l ≡ false → r ≡ noRow
-    → record { ok = false; machine = record { rows = replicate 32 r; count = 0; clock = 0 } } ≡ readOf l
-unfolding readOf freshAt freshRows mapFrom
-read-not l r h e = rw (h, e)
+pub head-not : (l : List ℕ) → readable l ≡ false → record { ok = false; places = 0; count = 0; clock = 0 } ≡ headOf l
+unfolding headOf
+head-not l h = rw h
+
+-- a place is read where all can be
+pub place-read : (l : List ℕ) (i : ℕ) → i < headOf l .places → readable l ≡ true
+unfolding headOf
+place-read l i h = go (readable l) refl h
+  where
+    go : (b : Bool) → readable l ≡ b → i < cond b 32 0 → readable l ≡ true
+    go true e q = e
+    go false e q = absurd (omega arith)
+
+pub places-most : (l : List ℕ) → headOf l .places ≤ 32
+unfolding headOf
+places-most l = go (readable l)
+  where
+    go : (b : Bool) → cond b 32 0 ≤ 32
+    go true = omega arith
+    go false = omega arith
+
+pub read-is : (l : List ℕ) (h : Head) (rows : List Row) (i : ℕ) → h ≡ headOf l → i ≡ h .places → rows ≡ listOf (rowIn l) i ++ replicate (32 - i) noRow
+    → record { ok = h .ok; machine = record { rows = rows; count = h .count; clock = h .clock } } ≡ readOf l
+unfolding headOf readOf machineIn freshAt freshRows mapFrom listOf
+read-is l h rows i e p r = go (readable l) refl
+  where
+    go : (b : Bool) → readable l ≡ b → record { ok = h .ok; machine = record { rows = rows; count = h .count; clock = h .clock } } ≡ readOf l
+    go true q =
+        let n : i ≡ 32 = p ∙ (rw q at (ap (λ x. x .places) e)) in
+        rw (e, q, places-all l rows i n r)
+    go false q =
+        let n : i ≡ 0 = p ∙ (rw q at (ap (λ x. x .places) e)) in
+        rw (e, q, r, n)

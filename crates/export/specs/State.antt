@@ -14,6 +14,7 @@ use Rattle.machine.specs.Fresh.{freshAt}
 use Rattle.machine.specs.declared.Stage.{Stage}
 use Rattle.machine.specs.declared.Row.{Row}
 use Rattle.machine.specs.declared.Machine.{Machine}
+use Rattle.export.specs.declared.state.Head.{Head}
 use Rattle.export.specs.declared.state.Reading.{Reading}
 
 -- ## To numbers
@@ -83,6 +84,16 @@ isNone (some i) = false
 -- long enough, and every place can be read
 unfoldable pub readable : List ℕ → Bool
 readable l = cond (ltb (length l) 258) false (isNone (firstWhere (unreadable l) 0 32))
+
+-- what is read of it: all, or nothing
+unfoldable pub headOf : List ℕ → Head
+headOf l =
+    record {
+      ok = readable l;
+      places = cond (readable l) 32 0;
+      count = cond (readable l) (getD l 0 0) 0;
+      clock = cond (readable l) (getD l 1 0) 0;
+    }
 
 -- the machine where it can be read, else the one with no rows
 unfoldable pub readOf : List ℕ → Reading

@@ -9,12 +9,20 @@ ghost use mathlib.Core.List.{[], _∷_, _++_};
 ghost use lib.ListN.{length, getD, take, drop};
 ghost use Rattle.least.specs.Lists.{listOf, flat};
 ghost use Rattle.export.specs.State.{stageNumber, arrivalNumber, ticksNumber, rowNumbers, placeNumbers, stateOf, stageIn, numberIn};
-ghost use Rattle.export.specs.State.{rowIn, machineIn, unreadable, readable, readOf};
+ghost use Rattle.export.specs.State.{rowIn, unreadable, readable, headOf, readOf};
 
 // The machine of lent numbers where it can be read, else the machine with no rows.
 pub struct Reading {
     pub ok: bool,
     pub machine: Machine,
+}
+
+// What comes before the rows, and how many of them are read.
+struct Head {
+    ok: bool,
+    places: usize,
+    count: usize,
+    clock: u64,
 }
 
 // The three numbers of a stage.
@@ -159,38 +167,43 @@ fn row_in(state: &[u64], i: usize) -> Row
     }
 }
 
-// The machine of numbers that can be read.
-fn machine_in(state: &[u64]) -> Machine
-    requires { ⌜ readable (now state) ≡ true ⌝ }
-    ensures { λ r. ⌜ r ≡ machineIn (now (state .entry)) ⌝ }
+// What is read of lent numbers: 32 places, the count and the clock of a machine that can be read, else nothing.
+fn head_of(state: &[u64]) -> Head
+    ensures { λ r. ⌜ r ≡ headOf (now (state .entry)) ⌝ }
 {
-    let mut rows = [start::no_row(); 32];
-    for i in 0..32 {
-        rows[i] = row_in(state, i);
+    if is_readable(state) {
+        return Head {
+            ok: true,
+            places: 32,
+            count: state[0] as usize,
+            clock: state[1],
+        };
     }
-    Machine {
-        rows,
-        count: state[0] as usize,
-        clock: state[1],
+    Head {
+        ok: false,
+        places: 0,
+        count: 0,
+        clock: 0,
     }
 }
 
-// A machine from lent numbers, if there is one.
+// A machine from lent numbers, if there is one. The loop's end is not a constant, and there is one array for both cases: else
+// it is taken apart where this is inlined.
 pub fn read(state: &[u64]) -> Reading
     ensures { λ r. ⌜ r ≡ readOf (now (state .entry)) ⌝ }
 {
-    if is_readable(state) {
-        return Reading {
-            ok: true,
-            machine: machine_in(state),
-        };
+    let h = head_of(state);
+    let places = h.places;
+    let mut rows = [start::no_row(); 32];
+    for i in 0..places {
+        rows[i] = row_in(state, i);
     }
     Reading {
-        ok: false,
+        ok: h.ok,
         machine: Machine {
-            rows: [start::no_row(); 32],
-            count: 0,
-            clock: 0,
+            rows,
+            count: h.count,
+            clock: h.clock,
         },
     }
 }

@@ -2,7 +2,9 @@
 use export::ticks;
 use machine::Answer;
 use machine::Machine;
+use machine::Stepped;
 use machine::Taken;
+use refusals::Refusal;
 ghost use mathlib.Core.Path.{_≡_};
 ghost use Prim.Native.Nat.{ℕ, _+_, _≤_};
 ghost use Rattle.pace.specs.Pace.{takenSum, saidSum, ticksSum, paceOf};
@@ -30,18 +32,22 @@ fn said_sum(a: Answer) -> u64
     }
 }
 
-// The same tick so many times from a machine: what the answers say, added up.
+// The same tick so many times from a machine: what the answers say, added up. The machine stays in the step's result, whose
+// first answer nobody reads: a variable for it would be one more copy a tick.
 fn run(m: Machine, mask: u32, signal: u8, early: bool, times: u64) -> u64
     requires { ⌜ times ≤ 4294967296 ⌝ }
     ensures { λ r. ⌜ r ≡ ticksSum m mask signal early times ⌝ }
 {
-    let mut at = m;
+    let mut s = Stepped {
+        machine: m,
+        answer: Answer::Refused(Refusal::NotWellFormed(0)),
+    };
     let mut total: u64 = 0;
     for i in 0..times {
-        let s = at.step(mask, signal, early);
+        let at = s.machine;
+        s = at.step(mask, signal, early);
         let a = s.answer;
         total += said_sum(a);
-        at = s.machine;
     }
     total
 }
