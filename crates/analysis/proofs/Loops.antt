@@ -2,10 +2,10 @@
 -- Assumes nothing.
 use mathlib.Core.Path.{_≡_, refl, sym, ap, _∙_}
 use mathlib.Core.List.{List, [], _∷_, _++_}
-use mathlib.Core.Logic.{_⊎_, ⊎-elim}
+use mathlib.Core.Logic.{⊎-elim}
 use mathlib.Core.Option.{Option, none, some}
-use Prim.Native.Nat.{ℕ, zero, suc, _+_, _-_, _*_, _≤_, _<_}
-use native.Mathlib.Nat.{lt-irrefl, eq-or-lt-of-le, le-of-suc-le-suc}
+use Prim.Native.Nat.{ℕ, suc, _+_, _-_, _*_, _≤_, _<_}
+use native.Mathlib.Nat.{lt-irrefl, eq-or-lt-of-le}
 use native.Mathlib.Numerals.{add-one, add-two}
 use native.Mathlib.Omega.{arith}
 use lib.ListN.{length, getD, take, drop, set, length-set}
@@ -21,14 +21,11 @@ use Rattle.equations.specs.Table.{rows, T, D, K}
 use Rattle.equations.specs.Hypertask.{B, startSide, start, response, valueOf, E}
 use Rattle.equations.specs.Guest.{windowSide, guest}
 use Rattle.equations.specs.Analysis.{threeOf, results}
-use Rattle.equations.specs.declared.Response.{Response}
-use Rattle.equations.specs.declared.Response.the-variants.{Is, Fails}
+use Rattle.equations.specs.declared.Response.the-variants.{Is}
 use Rattle.equations.proofs.Jobs.{one-less, offset-is, window-same}
 use Rattle.equations.proofs.Bounds.{times≤, starts-never-fall}
 use Rattle.analysis.specs.Loops.{foundOf, placeOf, startsFrom, offsetsIn, Offsets, Filled, GuestsFilled, threeIn}
-use Rattle.analysis.specs.declared.numbers.Found.{Found}
 use Rattle.analysis.specs.declared.numbers.Found.the-variants.{At, Nothing}
-use Rattle.analysis.specs.declared.checks.Place.{Place}
 use Rattle.analysis.specs.declared.checks.Place.the-variants.{Here, Nowhere}
 
 -- what the code's answers say of the definitions'

@@ -1,6 +1,6 @@
 -- Every state of a run, from a fresh start at any clock: the clock counts the ticks taken, the deadlines hold, and each row's jobs are booked.
 -- Assumes nothing.
-use Prim.Native.Nat.{ℕ, zero, suc, _+_, _-_, _≤_, _<_, _^_}
+use Prim.Native.Nat.{ℕ, zero, suc, _+_, _-_, _<_}
 use mathlib.Core.Path.{_≡_, refl, sym, ap, subst, _∙_}
 use mathlib.Core.Bool.{Bool, true, false}
 use mathlib.Core.List.{List, [], _∷_, _++_, append-nil}
@@ -20,7 +20,7 @@ use Rattle.machine.specs.TickRule.{Verdict, refused, accepted, verdict, chosen,
 use Rattle.machine.specs.Fresh.{freshRows, freshAt}
 use Rattle.machine.proofs.Searches.{map-at, map-length}
 use Rattle.machine.proofs.Choice.{chosen-runs}
-use Rattle.machine.proofs.Verdicts.{passed}
+use Rattle.machine_laws.proofs.Fresh.{fresh-length}
 use Rattle.least.specs.Lists.{listOf}
 use Rattle.least.proofs.Lists.{length-list}
 use Rattle.start.specs.Start.{rowOf, rowsOf}
@@ -78,12 +78,6 @@ fresh-row l j =
           )
     ]
 
-pub fresh-length : (l : List Row) → length l ≤ 32 → length (freshRows l) ≡ 32
-unfolding freshRows
-fresh-length l h =
-    let f : ℕ → Row → Row = λ i r. withStage r Stage.Never in
-    omega (arith, length-append (mapFrom f 0 l) (replicate (32 - length l) noRow), map-length f l 0, length-replicate (32 - length l) noRow)
-
 -- ## What the answer says of each row, where row k ran
 
 ran-row : ℕ → Bool → List Row → ℕ → Row
@@ -108,7 +102,6 @@ module _ (s : List ℕ) (r g : ℕ → ℕ) (sch : Schedulable s r (E s) g) (c�
   pub record State (R : Run) : Type 0 where
     pub clock : R .machine .clock ≡ c₀ + length (R .taken)
     pub count : R .machine .count ≡ rows s
-    pub room : c₀ ≤ 2 ^ 40 → R .machine .clock ≤ 2 ^ 40
     pub all : All s r g sch (R .machine .clock) (R .machine .rows)
     pub named : (i x : ℕ) → i < 32 → brought (R .taken) i x ≡ true → i < rows s
     pub jobs : (i : ℕ) → i < rows s → Booked c₀ (rowOf s i) (R .taken) i (stageAt (R .machine .rows) i)
@@ -130,8 +123,7 @@ module _ (s : List ℕ) (r g : ℕ → ℕ) (sch : Schedulable s r (E s) g) (c�
       record {
         clock = omega arith;
         count = rows-length s (rows s);
-        room = λ h. h;
-        all = start s r g sch c₀ l (fresh-length (rowsOf s (rows s)) (omega (arith, sch .sound .few, rows-length s (rows s)))) shape never;
+        all = start s r g sch c₀ l (fresh-length (rowsOf s (rows s)) c₀ (omega (arith, sch .sound .few, rows-length s (rows s)))) shape never;
         named = λ i x h q. clash (sym (not-brought [] i x (omega arith)) ∙ q);
         jobs = λ i h. rw (never i) (booked-none c₀ (rowOf s i) i);
       }
@@ -174,7 +166,6 @@ module _ (s : List ℕ) (r g : ℕ → ℕ) (sch : Schedulable s r (E s) g) (c�
         record {
           clock = omega (arith, S .clock, length-append (R .taken) (record { tick = t; said = said } ∷ []));
           count = S .count;
-          room = λ h. omega (arith, passed m (t .mask) v .room);
           all = (let z : m .clock + 1 ≡ suc (m .clock) = omega arith in rw z a);
           named = λ i z h q. elim (ℕ-discrete z (length (R .taken))) [
             | yes w ↦ arrives i h (sym (brought-last (R .taken) (record { tick = t; said = said }) i) ∙ (rw w at q))

@@ -1,80 +1,57 @@
--- Every state of a run is well formed, so no tick of it meets refusal 8. Assumes nothing.
-use Prim.Native.Nat.{ℕ, suc, _+_, _-_, _≤_, _<_, _^_}
-use mathlib.Core.Path.{_≡_, refl, sym, ap, _∙_}
-use mathlib.Core.Bool.{Bool, true, false, not, cond}
-use mathlib.Core.List.{List, [], _∷_}
-use native.Mathlib.Decide.{decLe}
+-- Every state of a run is well formed, so no tick of it meets refusal 8: a fresh machine of an accepted table is, and a tick
+-- keeps it so. Assumes nothing.
+use Prim.Native.Nat.{ℕ, zero, suc, _≤_, _<_, _^_}
+use mathlib.Core.Path.{_≡_, refl, _∙_}
+use mathlib.Core.Bool.{Bool, true}
+use mathlib.Core.List.{List, [], _∷_, _++_}
 use native.Mathlib.Omega.{arith}
-use lib.Dec.{leb, eqb}
 use lib.ListN.{length}
-use borrow.Author.Tests.{le-leb, lt-ltb, le-ltb}
 use Rattle.refusals.specs.declared.Refusal.{Refusal}
+use Rattle.least.specs.Lists.{listOf}
+use Rattle.least.proofs.Lists.{length-list}
 use Rattle.equations.specs.Table.{rows}
 use Rattle.equations.specs.Hypertask.{E}
 use Rattle.equations.specs.Solutions.{Schedulable}
 use Rattle.equations.specs.declared.Answer.the-variants.{Accepted}
 use Rattle.equations.proofs.Bounds.{T≤, C≥1, C≤, K≥1, K≤}
 use Rattle.equations.proofs.Exactly.{R, G, offset-range}
-use Rattle.machine.specs.declared.Stage.{Stage}
 use Rattle.machine.specs.declared.Row.{Row}
-use Rattle.machine.specs.declared.Machine.{Machine}
 use Rattle.machine.specs.declared.Answer.{Answer}
-use Rattle.machine.specs.Rows.{noRow, withStage, age, Found, at, none, first, howMany, hasBegun}
-use Rattle.machine.specs.WellFormed.{fieldsFit, stageFits, rowFits, begunRow, isBlank, wellFormed}
-use Rattle.machine.specs.TickRule.{pastLast, tooSoon, whileHyper, Verdict, refused, accepted, refuseAt, verdict, chosen, turned, ranOn, taken, stepBy}
+use Rattle.machine.specs.Rows.{every}
+use Rattle.machine.specs.WellFormed.{fieldsFit, wellFormed}
 use Rattle.machine.specs.TickRule.{stepOf}
-use Rattle.machine.specs.OnePass.{misplaced}
 use Rattle.machine.specs.Fresh.{freshAt}
-use Rattle.machine.proofs.Tests.{fields-fit}
-use Rattle.machine.proofs.Searches.{all-none}
-use Rattle.machine.proofs.Verdicts.{well-law}
+use Rattle.machine.proofs.Tests.{both, fields-fit}
+use Rattle.machine_laws.proofs.Kept.{step-formed, step-length, step-not-8}
+use Rattle.machine_laws.proofs.Fresh.{fresh-formed, fresh-length}
 use Rattle.start.specs.Start.{rowOf, rowsOf, startAnswer, startOf}
-use Rattle.demands.specs.Runs.{Tick, Run, run}
-use Rattle.demands.proofs.Rows.{Okay, age-law}
-use Rattle.demands.proofs.Ticks.{rowAt, stageAt, RowsFit}
-use Rattle.demands.proofs.Accepted.{schedulable, row-past}
-use Rattle.demands.proofs.Runs.{State}
-use Rattle.demands.proofs.Demand3.{started, run-from}
+use Rattle.demands.specs.Runs.{Tick, Run, after, onward, run}
+use Rattle.demands.proofs.Accepted.{schedulable}
+use Rattle.demands.proofs.Demand3.{started}
 
--- a count of what one place at most has
-none-has : (p : Row → Bool) (l : List Row) → ((j : ℕ) → p (rowAt l j) ≡ true → ⊥) → howMany p l ≡ 0
-unfolding howMany
-none-has p [] h = refl
-none-has p (r ∷ rs) h = go (p r) refl (none-has p rs (λ j. h (suc j)))
-  where
-    go : (b : Bool) → p r ≡ b → howMany p rs ≡ 0 → cond b (suc (howMany p rs)) (howMany p rs) ≡ 0
-    go true q e = absurd (h 0 q)
-    go false q e = e
+-- a run from a well formed machine
+onward-formed : (x : Run) (ticks : List Tick) → length (x .machine .rows) ≡ 32 → wellFormed (x .machine) ≡ true
+    → wellFormed (onward x ticks .machine) ≡ true
+unfolding onward after
+onward-formed x [] long h = h
+onward-formed x (t ∷ ts) long h =
+    onward-formed (after x t) ts (step-length (x .machine) (t .mask) (t .signal) (t .early) ∙ long)
+    (step-formed (x .machine) (t .mask) (t .signal) (t .early) long h)
 
-one-has : (p : Row → Bool) (l : List Row) (k : ℕ) → ((j : ℕ) → p (rowAt l j) ≡ true → j ≡ k) → howMany p l ≤ 1
-unfolding howMany
-one-has p [] k h = omega arith
-one-has p (r ∷ rs) k h = go (p r) refl (one-has p rs (k - 1) (λ j e. omega (arith, h (suc j) e)))
-  where
-    go : (b : Bool) → p r ≡ b → howMany p rs ≤ 1 → cond b (suc (howMany p rs)) (howMany p rs) ≤ 1
-    go true q e = omega (arith, none-has p rs (λ j w. absurd (omega (arith, h 0 q, h (suc j) w))))
-    go false q e = e
-
--- a row's stage
-stage-fits : (r : Row) (c : ℕ) (s : Stage) → Okay r c s → stageFits c (r .c) (r .k) (r .e) s ≡ true
-unfolding stageFits
-stage-fits r c Stage.Never o = refl
-stage-fits r c (Stage.Guest a u) o =
-    let z = age-law c a (o .0) in
-    rw (le-leb a c (o .0), le-leb u (r .c) (o .2), le-leb (age c a) (r .e) (omega arith))
-stage-fits r c (Stage.Hyper a l) o =
-    let h : a ≤ c = omega arith in
-    let z = age-law c a h in
-    rw (le-leb a c h, le-leb 1 l (o .0), le-leb l (r .k) (o .1), lt-ltb (r .e) (age c a) (omega arith))
-stage-fits r c (Stage.Closed a) o = rw (le-leb a c o)
+-- the fields of an accepted table's rows
+every-more : (p : Row → Bool) (l : List Row) (r : Row) → every p l ≡ true → p r ≡ true → every p (l ++ (r ∷ [])) ≡ true
+unfolding every
+every-more p [] r h e = rw e
+every-more p (x ∷ xs) r h e =
+    let t = both (p x) (every p xs) h in
+    rw (t .0) (every-more p xs r (t .1) e)
 
 module _ (s : List ℕ) (r g : ℕ → ℕ) (sch : Schedulable s r (E s) g) where
-  -- its fields
-  fields : (j : ℕ) → j < rows s → (z : Stage) → fieldsFit (withStage (rowOf s j) z) ≡ true
+  fields : (j : ℕ) → j < rows s → fieldsFit (rowOf s j) ≡ true
   unfolding rowOf
-  fields j h z =
+  fields j h =
       let e = offset-range s r (E s) g sch j h in
-      fields-fit (withStage (rowOf s j) z)
+      fields-fit (rowOf s j)
       (record {
         period = T≤ s (sch .sound) j h;
         deadline = sch .sound .within j h;
@@ -86,78 +63,23 @@ module _ (s : List ℕ) (r g : ℕ → ℕ) (sch : Schedulable s r (E s) g) wher
         hypertask = K≤ s (sch .sound) j h;
       })
 
-  blank : isBlank noRow ≡ true
-  unfolding isBlank
-  blank = refl
-
-  module _ (c : ℕ) (l : List Row) (W : RowsFit (rowOf s) (rows s) c l) where
-    each : (j : ℕ) → j < length l → misplaced c (rows s) j (rowAt l j) ≡ false
-    each j k =
-        elim (decLe (suc j) (rows s)) [
-          | yes h ↦ rw (lt-ltb j (rows s) h) (ap not (row-fits h))
-          | no h ↦ (
-              let e : rowAt l j ≡ noRow =
-              W .shape j ∙ ap (withStage (rowOf s j)) (W .past j (omega arith))
-              ∙ ap (λ (q : Row). withStage q Stage.Never) (row-past s (sch .sound) j (omega arith)) in
-              rw (le-ltb j (rows s) (omega arith)) (ap not (ap isBlank e ∙ blank))
-              )
-        ]
-      where
-        row-fits : j < rows s → rowFits c (rowAt l j) ≡ true
-        row-fits h =
-            ap (rowFits c) (W .shape j)
-            ∙ rw (fields j h (stageAt l j)) (stage-fits (rowOf s j) c (stageAt l j) (W .okay j))
-
-    one-begun : howMany begunRow l ≤ 1
-    one-begun = one-has begunRow l (W .cur) (λ j e. W .only j (sym (ap (λ (q : Row). hasBegun (q .k) (stageAt l j)) (W .shape j)) ∙ e))
-
-  well : (c₀ : ℕ) (X : Run) → State s r g sch c₀ X → c₀ ≤ 2 ^ 40 → wellFormed (X .machine) ≡ true
-  well c₀ X S h =
-      let m : Machine = X .machine in
-      let n : m .count ≡ rows s = S .count in
-      let a : leb 1 (m .count) ≡ true = le-leb 1 (m .count) (omega (arith, sch .sound .some)) in
-      let b : leb (m .count) 32 ≡ true = le-leb (m .count) 32 (omega (arith, sch .sound .few)) in
-      let d : leb (m .clock) (2 ^ 40) ≡ true = le-leb (m .clock) (2 ^ 40) (S .room h) in
-      let f : first (misplaced (m .clock) (m .count)) (m .rows) ≡ none =
-      all-none (misplaced (m .clock) (m .count)) (m .rows) 0
-      (λ k q. let z : 0 + k ≡ k = omega arith in rw (z, n) (each (m .clock) (m .rows) (S .all .wf) k q)) in
-      let o : leb (howMany begunRow (m .rows)) 1 ≡ true = le-leb (howMany begunRow (m .rows)) 1 (one-begun (m .clock) (m .rows) (S .all .wf)) in
-      rw (well-law m, a, b, d, f, o)
+  every-field : (n : ℕ) → n ≤ rows s → every fieldsFit (rowsOf s n) ≡ true
+  unfolding every listOf
+  every-field zero h = refl
+  every-field (suc n) h = every-more fieldsFit (rowsOf s n) (rowOf s n) (every-field n (omega arith)) (fields n (omega arith))
 
 -- ## Over `start` and the machine's step
 
--- a well formed state isn't refused with 8
-verdict-not-eight : (m : Machine) (mask k : ℕ) → wellFormed m ≡ true → verdict m mask ≡ refused (Refusal.NotWellFormed k) → ⊥
-unfolding verdict
-verdict-not-eight m mask k w e =
-    go (eqb (m .clock) (2 ^ 40)) (first (pastLast mask (m .count)) (m .rows)) (first (tooSoon mask (m .clock)) (m .rows))
-    (first (whileHyper mask) (m .rows)) (rw w at e)
-  where
-    go : (y : Bool) (p q h : Found) → cond y (refused (Refusal.ClockAtEnd 0))
-        (refuseAt Refusal.NoSuchTask p (refuseAt Refusal.ArrivalTooSoon q (refuseAt Refusal.ArrivalWhileHyper h accepted)))
-        ≡ refused (Refusal.NotWellFormed k) → ⊥
-    go true p q h e = let z : _≡_ {A = ℕ} 0 1 = cc in omega arith
-    go false (at i) q h e = let z : _≡_ {A = ℕ} 0 1 = cc in omega arith
-    go false none (at i) h e = let z : _≡_ {A = ℕ} 0 1 = cc in omega arith
-    go false none none (at i) e = let z : _≡_ {A = ℕ} 0 1 = cc in omega arith
-    go false none none none e = let z : _≡_ {A = ℕ} 0 1 = cc in omega arith
-
-not-eight : (m : Machine) (mask signal : ℕ) (early : Bool) (k : ℕ) → wellFormed m ≡ true →
-    stepOf m mask signal early .answer ≡ Answer.Refused (Refusal.NotWellFormed k) → ⊥
-unfolding stepOf taken
-not-eight m mask signal early k w e = go (verdict m mask) refl e
-  where
-    on : (f : Found) → ranOn (m .count) (m .clock) (turned (m .clock) mask (m .rows)) signal early f .answer ≡ Answer.Refused (Refusal.NotWellFormed k) → ⊥
-    on (at i) q = let z : _≡_ {A = ℕ} 0 1 = cc in omega arith
-    on none q = let z : _≡_ {A = ℕ} 0 1 = cc in omega arith
-
-    go : (v : Verdict) → verdict m mask ≡ v → stepBy m mask signal early v .answer ≡ Answer.Refused (Refusal.NotWellFormed k) → ⊥
-    go (refused x) p q = let z : x ≡ Refusal.NotWellFormed k = cc in verdict-not-eight m mask k w (p ∙ ap refused z)
-    go accepted p q = on (chosen (turned (m .clock) mask (m .rows))) q
-
 module _ (s : List ℕ) (m : ℕ) (accepted : startAnswer s ≡ Accepted m) where
   pub well-formed-from : (c₀ : ℕ) → c₀ ≤ 2 ^ 40 → (ticks : List Tick) → wellFormed (run (freshAt (rowsOf s m) c₀) ticks .machine) ≡ true
-  well-formed-from c₀ h ticks = well s (R s) (G s) (schedulable s m accepted .1) c₀ (run (freshAt (rowsOf s m) c₀) ticks) (run-from s m accepted c₀ ticks) h
+  well-formed-from c₀ h ticks =
+      let a = schedulable s m accepted in
+      let sch = a .1 in
+      let n : length (rowsOf s m) ≡ m = length-list (rowOf s) m in
+      let some : 1 ≤ length (rowsOf s m) = omega (arith, sch .sound .some) in
+      let few : length (rowsOf s m) ≤ 32 = omega (arith, sch .sound .few) in
+      onward-formed (record { machine = freshAt (rowsOf s m) c₀; taken = [] }) ticks (fresh-length (rowsOf s m) c₀ few)
+      (fresh-formed (rowsOf s m) c₀ some few (every-field s (R s) (G s) sch m (omega arith)) h)
 
   pub well-formed : (ticks : List Tick) → wellFormed (run (startOf s .machine) ticks .machine) ≡ true
   well-formed ticks = rw (started s m accepted) (well-formed-from 0 (omega arith) ticks)
@@ -165,4 +87,4 @@ module _ (s : List ℕ) (m : ℕ) (accepted : startAnswer s ≡ Accepted m) wher
   -- whatever the next tick brings, it isn't refused with 8
   pub never-eight : (ticks : List Tick) (mask signal : ℕ) (early : Bool) (k : ℕ) →
       stepOf (run (startOf s .machine) ticks .machine) mask signal early .answer ≡ Answer.Refused (Refusal.NotWellFormed k) → ⊥
-  never-eight ticks mask signal early k = not-eight (run (startOf s .machine) ticks .machine) mask signal early k (well-formed ticks)
+  never-eight ticks mask signal early k = step-not-8 (run (startOf s .machine) ticks .machine) mask signal early k (well-formed ticks)

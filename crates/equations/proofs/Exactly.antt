@@ -1,28 +1,28 @@
 -- The analysis accepts exactly the tables that document 01 calls for, with exactly its numbers; and what a refusal of 5, 6 or 7 says.
 -- Assumes nothing.
-use mathlib.Core.Path.{_≡_, refl, sym, ap, subst, _∙_}
+use mathlib.Core.Path.{_≡_, refl, sym, ap, _∙_}
 use mathlib.Core.Bool.{Bool, true, false}
 use mathlib.Core.List.{List}
-use mathlib.Core.Logic.{_⊎_, _↔_, inl, inr, ⊎-elim}
+use mathlib.Core.Logic.{_↔_, ⊎-elim}
 use mathlib.Core.Option.{Option, none, some}
-use Prim.Native.Nat.{ℕ, zero, suc, _+_, _-_, _*_, _/_, _%_, _≤_, _<_, max}
+use Prim.Native.Nat.{ℕ, zero, suc, _+_, _-_, _*_, _≤_, _<_, max}
 use native.Mathlib.Decide.{decLe}
-use native.Mathlib.Nat.{lt-irrefl, le-refl, eq-or-lt-of-le, not-suc-le-zero, one-le-mul, mul-le-mul-right, zero-mul}
+use native.Mathlib.Nat.{lt-irrefl, le-refl, eq-or-lt-of-le, one-le-mul, mul-le-mul-right, zero-mul}
 use native.Mathlib.Omega.{arith}
-use borrow.Author.Tests.{lt-ltb, le-ltb, ltb-false}
+use borrow.Author.Tests.{le-ltb, ltb-false}
 use lib.Dec.{ltb}
-use lib.ListN.{length, getD}
-use Rattle.least.specs.Search.{firstWhere, first, Least}
-use Rattle.least.specs.Sums.{up, sum}
-use Rattle.least.proofs.Where.{some-inj, some-none, true-false, where-all, where-none}
-use Rattle.least.proofs.Least.{found, finds, none-found, least-unique, least-same, at-most}
+use lib.ListN.{length}
+use Rattle.least.specs.Search.{firstWhere, Least}
+use Rattle.least.specs.Sums.{up}
+use Rattle.least.proofs.Where.{some-inj, some-none, where-all}
+use Rattle.least.proofs.Least.{found, finds, none-found, least-same, at-most}
 use Rattle.least.proofs.Sums.{up-least, up≥1, sum-mono}
 use Rattle.refusals.specs.declared.Refusal.{Refusal}
 use Rattle.equations.specs.Table.{rows, T, D, C, K, Sound}
-use Rattle.equations.specs.Hypertask.{B, demand, activeSide, activePeriod, releases, startDemand, startSide}
+use Rattle.equations.specs.Hypertask.{demand, activeSide, activePeriod, releases, startDemand, startSide}
 use Rattle.equations.specs.Hypertask.{start, responseFrom, jobResponse, larger, worst, response, valueOf, E}
 use Rattle.equations.specs.Guest.{windowSide, WA, WE, guest}
-use Rattle.equations.specs.Analysis.{stopIf, stopAtField, stopAtDeadline, stopAtRow, badLength, badField, badDeadline}
+use Rattle.equations.specs.Analysis.{stopIf, stopAtField, stopAtDeadline, badLength, badField, badDeadline}
 use Rattle.equations.specs.Analysis.{tableCheck, resultsCheck, rowByRow, hypertaskCheck, guestCheck, andThen, solved, analysis}
 use Rattle.equations.specs.Solutions.{ActivePeriod, Start, Job, HypertaskResponse, GuestResponse, Schedulable}
 use Rattle.equations.specs.declared.Response.{Response}
@@ -30,12 +30,12 @@ use Rattle.equations.specs.declared.Response.the-variants.{Is, Fails}
 use Rattle.equations.specs.declared.Checked.{Checked}
 use Rattle.equations.specs.declared.Checked.the-variants.{Passed, Stopped}
 use Rattle.equations.specs.declared.Answer.{Answer}
-use Rattle.equations.specs.declared.Answer.the-variants.{Accepted, Refused}
-use Rattle.equations.proofs.Bounds.{T≥1, C≥1, K≥1, active≥1, active-never-falls, D≤}
+use Rattle.equations.specs.declared.Answer.the-variants.{Accepted}
+use Rattle.equations.proofs.Bounds.{T≥1, K≥1, active≥1, active-never-falls}
 use Rattle.equations.proofs.Jobs.{larger-both, Responds, responds, response-is, response≤}
-use Rattle.equations.proofs.Jobs.{job-some, offset-is, GuestResponds, guest-responds, guest-is, window-same}
+use Rattle.equations.proofs.Jobs.{job-some, offset-is, guest-responds, guest-is, window-same}
 use Rattle.equations.proofs.Checks.{stopped-passed, refused-accepted, neither, field-fine, length-fine, table-fine, sound}
-use Rattle.equations.proofs.Checks.{results-fit, entered, accepted, Rowwise, rows-start, rows-next, rows-end}
+use Rattle.equations.proofs.Checks.{results-fit, entered, accepted}
 
 -- ## None of w + K − (q − 1)·T is below zero
 

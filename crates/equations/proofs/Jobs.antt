@@ -3,21 +3,19 @@
 use mathlib.Core.Path.{_≡_, refl, sym, ap, subst, _∙_}
 use mathlib.Core.List.{List}
 use mathlib.Core.Option.{Option, none, some}
-use mathlib.Core.Logic.{_⊎_, inl, inr, ⊎-elim}
 use Prim.Native.Nat.{ℕ, zero, suc, _+_, _-_, _*_, _≤_, _<_, max}
-use native.Mathlib.Nat.{lt-irrefl, add-zero, add-suc, max-le, suc-mul, mul-le-mul-right}
+use native.Mathlib.Nat.{lt-irrefl, add-zero, add-suc, suc-mul, mul-le-mul-right}
 use native.Mathlib.Numerals.{add-one}
 use native.Mathlib.Omega.{arith}
-use Rattle.least.specs.Sums.{up, sum}
+use Rattle.least.specs.Sums.{up}
 use Rattle.least.proofs.Sums.{sum-same}
 use Rattle.least.proofs.Least.{found}
 use Rattle.least.proofs.Where.{some-inj, some-none}
 use Rattle.refusals.specs.declared.Refusal.{Refusal}
 use Rattle.refusals.specs.declared.Refusal.the-variants.{NoActivePeriod, StartTooLate, GuestFails}
-use Rattle.equations.specs.Table.{rows, T, D, K}
+use Rattle.equations.specs.Table.{T, D, K}
 use Rattle.equations.specs.Hypertask.{activePeriod, start, responseFrom, jobResponse, larger, worst, worstOr6, activeOr5, response, E}
 use Rattle.equations.specs.Guest.{bound, F, windowSide, WA, WE, guestFrom, guest}
-use Rattle.equations.specs.declared.Response.{Response}
 use Rattle.equations.specs.declared.Response.the-variants.{Is, Fails}
 
 pub is-inj : (a b : ℕ) → Is a ≡ Is b → a ≡ b

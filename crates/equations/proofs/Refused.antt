@@ -1,6 +1,6 @@
 -- What a refusal of 5, 6 or 7 says: the first row that fails, and that the equation it names has no solution within its limit.
 -- Assumes nothing.
-use mathlib.Core.Path.{_≡_, refl, sym, ap, subst, _∙_}
+use mathlib.Core.Path.{_≡_, refl, sym, ap, _∙_}
 use mathlib.Core.List.{List}
 use mathlib.Core.Logic.{_⊎_, inl, inr, ⊎-elim}
 use mathlib.Core.Option.{Option, none, some}
@@ -11,11 +11,11 @@ use Rattle.least.specs.Sums.{up}
 use Rattle.least.proofs.Where.{some-none}
 use Rattle.refusals.specs.declared.Refusal.{Refusal}
 use Rattle.refusals.specs.declared.Refusal.the-variants.{NoActivePeriod, StartTooLate, GuestFails}
-use Rattle.equations.specs.Table.{rows, T, D, C, K, Sound}
+use Rattle.equations.specs.Table.{rows, T, D, C, K}
 use Rattle.equations.specs.Hypertask.{activeSide, activePeriod, startSide, start, responseFrom, jobResponse}
 use Rattle.equations.specs.Hypertask.{larger, worst, worstOr6, activeOr5, response, E}
 use Rattle.equations.specs.Guest.{windowSide, WA, WE, guestFrom, guest}
-use Rattle.equations.specs.Analysis.{stopAtRow, rowByRow, hypertaskCheck, guestCheck, andThen, solved}
+use Rattle.equations.specs.Analysis.{rowByRow, hypertaskCheck, guestCheck, andThen, solved}
 use Rattle.equations.specs.Solutions.{ActivePeriod, Job}
 use Rattle.equations.specs.declared.Response.{Response}
 use Rattle.equations.specs.declared.Response.the-variants.{Is, Fails}

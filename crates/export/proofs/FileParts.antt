@@ -1,26 +1,24 @@
 -- Laws of plan files through numbers and lent memory.
 -- Assumes nothing.
 use mathlib.Core.Path.{_≡_, refl, sym, ap, _∙_}
-use mathlib.Core.Bool.{Bool, true, false, not, _||_}
-use mathlib.Core.List.{List, [], _∷_, _++_}
+use mathlib.Core.Bool.{Bool, true, false}
+use mathlib.Core.List.{List, _++_}
 use mathlib.Core.Option.{Option, none, some}
 use Prim.Native.Nat.{ℕ, _+_, _/_, _%_, _≤_, _<_}
 use native.Mathlib.Nat.{lt-irrefl, zero-add}
 use native.Mathlib.Omega.{arith}
-use borrow.Author.Tests.{lt-ltb, le-ltb, eq-eqb, eqb-true, not-false}
-use lib.Dec.{ltb, eqb}
+use borrow.Author.Tests.{lt-ltb, le-ltb, eq-eqb}
+use lib.Dec.{ltb}
 use lib.ListN.{length, getD, set, take, drop}
 use lib.Seq.{sets, take-all}
 use Rattle.refusals.specs.declared.Refusal.{Refusal}
 use Rattle.plan.specs.Numbers.{tableOf, AllBelow}
 use Rattle.plan.specs.Refuse.{answerOf}
-use Rattle.plan.specs.PlanFile.{Section, sectionsOf, bodyOf, rowsKind, wrongRows, wrongSize, readRefusal, partIf, partOf}
+use Rattle.plan.specs.PlanFile.{sectionsOf, bodyOf, rowsKind, readRefusal, partIf, partOf}
 use Rattle.plan.specs.Bodies.{takenOf, afterTaken}
 use Rattle.plan.specs.Writer.{writingOf}
-use Rattle.plan.specs.Meaning.{Plan}
 use Rattle.plan.specs.declared.Answer.{Answer}
 use Rattle.plan.specs.declared.Writing.{Writing}
-use Rattle.plan.proofs.Tests.{or-inv}
 use Rattle.plan.proofs.Values.{numbers-length}
 use Rattle.plan.proofs.Puts.{script-step, sets-front}
 use Rattle.plan.proofs.RoundTrips.{accepted-rows}

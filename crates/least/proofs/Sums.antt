@@ -1,9 +1,9 @@
 -- Laws of sums, of the largest, and of division rounded up.
 -- Assumes nothing.
-use mathlib.Core.Path.{_≡_, refl, sym, ap, _∙_}
-use mathlib.Core.Logic.{_⊎_, ⊎-elim}
+use mathlib.Core.Path.{_≡_, refl}
+use mathlib.Core.Logic.{⊎-elim}
 use Prim.Native.Nat.{ℕ, zero, suc, _+_, _-_, _*_, _/_, _≤_, _<_, max}
-use native.Mathlib.Nat.{le-refl, le-trans, le-of-lt, le-of-suc-le-suc, lt-suc-self, not-suc-le-zero, eq-or-lt-of-le, div-zero, div-mul-le-self, lt-div-mul-add, le-div-iff-mul-le, div-lt-iff-lt-mul, add-mul, one-mul, suc-mul, mul-one, mul-le-mul, mul-le-mul-left, mul-le-mul-right, le-mul-of-pos-right, eq-zero-or-pos, zero-mul, max-le, le-max-left, le-max-right}
+use native.Mathlib.Nat.{le-refl, le-trans, le-of-suc-le-suc, lt-suc-self, not-suc-le-zero, eq-or-lt-of-le, div-zero, div-mul-le-self, lt-div-mul-add, le-div-iff-mul-le, div-lt-iff-lt-mul, one-mul, suc-mul, le-mul-of-pos-right, eq-zero-or-pos, max-le, le-max-left, le-max-right}
 use native.Mathlib.Numerals.{add-one}
 use native.Mathlib.Omega.{arith}
 use Rattle.least.specs.Sums.{up, sum, largest}

@@ -18,7 +18,7 @@ use Rattle.machine.specs.TickRule.{youngerThan, enforced, tooSoon, while
 use Rattle.machine.specs.OnePass.{place, isNone, misplaced, turnedRow, isDue, mayNotArrive, moves, passedRow, willWait, willBeReady, nothingSeen, seenFrom}
 use Rattle.machine.specs.OnePass.{stageSeen, secondBegun, arrivalSeen, arrivalOn, unmoved, rowSeen}
 use Rattle.machine.proofs.Tests.{both, blank-never, and-false}
-use Rattle.machine.proofs.Searches.{first-at, none-intro, some-at, place-cond, place-found, place-none, count-drop, count-none, count-some}
+use Rattle.machine.proofs.Searches.{first-at, none-intro, some-at, place-cond, place-found, place-none, count-drop, none-found, some-found}
 use Rattle.machine.proofs.Searches.{map-reads, map-stores, map-keeps}
 use Rattle.machine.proofs.Verdicts.{well-law}
 
@@ -189,7 +189,7 @@ module _ (m : Machine) (mask i : ℕ) (w : Seen) (next : List Row) (some : 0 < i
       go true q =
           let k : ltb (w .begun) 32 ≡ false = rw q at e in
           let f = place-none (firstFrom begun i (drop i (m .rows))) (w .begun) begun-below begun-place (ltb-false (w .begun) 32 k) in
-          let z = count-none begun begunRow (λ j r. refl) i (drop i (m .rows)) f in
+          let z = none-found begun begunRow (λ j r. refl) i (drop i (m .rows)) f in
           omega arith
       go false q = p .one
 
@@ -199,7 +199,7 @@ module _ (m : Machine) (mask i : ℕ) (w : Seen) (next : List Row) (some : 0 < i
   two-begun e =
       let q = both (hasBegun (row .k) (row .stage)) (ltb (w .begun) 32) e in
       let f = place-found (firstFrom begun i (drop i (m .rows))) (w .begun) begun-below begun-place (ltb-true (w .begun) 32 (q .1)) in
-      let s = count-some begun begunRow (λ j r. refl) i (w .begun) (drop i (m .rows)) f in
+      let s = some-found begun begunRow (λ j r. refl) i (w .begun) (drop i (m .rows)) f in
       let c : howMany begunRow (drop (i - 1) (m .rows)) ≡ suc (howMany begunRow (drop i (m .rows))) = rw (cut-row, q .0) in
       let more : 1 < howMany begunRow (m .rows) = omega (arith, count-drop begunRow (m .rows) (i - 1)) in
       let many : leb (howMany begunRow (m .rows)) 1 ≡ false = lt-leb (howMany begunRow (m .rows)) 1 more in

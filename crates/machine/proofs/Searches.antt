@@ -159,17 +159,17 @@ count-drop p (r ∷ rs) (suc k) = go (p r) (count-drop p rs k)
 
 -- none or some, as a search says
 module _ (p : ℕ → Row → Bool) (q : Row → Bool) (same : (i : ℕ) (r : Row) → p i r ≡ q r) where
-  pub count-none : (i : ℕ) (l : List Row) → firstFrom p i l ≡ none → howMany q l ≡ 0
+  pub none-found : (i : ℕ) (l : List Row) → firstFrom p i l ≡ none → howMany q l ≡ 0
   unfolding howMany
-  count-none i [] h = refl
-  count-none i (r ∷ rs) h =
+  none-found i [] h = refl
+  none-found i (r ∷ rs) h =
       let t = none-cons p i r rs h in
-      rw (sym (same i r) ∙ t .0) (count-none (suc i) rs (t .1))
+      rw (sym (same i r) ∙ t .0) (none-found (suc i) rs (t .1))
 
-  pub count-some : (i x : ℕ) (l : List Row) → firstFrom p i l ≡ at x → 1 ≤ howMany q l
+  pub some-found : (i x : ℕ) (l : List Row) → firstFrom p i l ≡ at x → 1 ≤ howMany q l
   unfolding howMany firstFrom
-  count-some i x [] h = let z : _≡_ {A = ℕ} 0 1 = cc in absurd (omega arith)
-  count-some i x (r ∷ rs) h = go (p i r) refl h (count-some (suc i) x rs)
+  some-found i x [] h = let z : _≡_ {A = ℕ} 0 1 = cc in absurd (omega arith)
+  some-found i x (r ∷ rs) h = go (p i r) refl h (some-found (suc i) x rs)
     where
       go : (b : Bool) → p i r ≡ b → cond b (at i) (firstFrom p (suc i) rs) ≡ at x → (firstFrom p (suc i) rs ≡ at x → 1 ≤ howMany q rs)
           → 1 ≤ cond (q r) (suc (howMany q rs)) (howMany q rs)

@@ -7,6 +7,7 @@ use native.Mathlib.Omega.{arith}
 use lib.ListN.{length, getD, set}
 use Rattle.machine.specs.declared.Row.{Row}
 use Rattle.machine.specs.Rows.{noRow, mapFrom, howMany}
+use Rattle.machine.proofs.Searches.{all-none, none-found}
 
 pub count-map : (p : Row → Bool) (f : ℕ → Row → Row) (l : List Row) (i : ℕ)
     → ((k : ℕ) → k < length l → p (f (i + k) (getD l k noRow)) ≡ p (getD l k noRow)) → howMany p (mapFrom f i l) ≡ howMany p l
@@ -18,11 +19,7 @@ count-map p f (r ∷ rs) i g =
     rw (e, count-map p f rs (suc i) (λ k h. let y : i + suc k ≡ suc i + k = omega arith in rw y at (g (suc k) (omega arith))))
 
 pub count-none : (p : Row → Bool) (l : List Row) → ((k : ℕ) → k < length l → p (getD l k noRow) ≡ false) → howMany p l ≡ 0
-unfolding howMany
-count-none p [] g = refl
-count-none p (r ∷ rs) g =
-    let e : p r ≡ false = g 0 (omega arith) in
-    rw e (count-none p rs (λ k h. g (suc k) (omega arith)))
+count-none p l g = none-found (λ i r. p r) p (λ i r. refl) 0 l (all-none (λ i r. p r) l 0 g)
 
 pub count-set : (p : Row → Bool) (l : List Row) (i : ℕ) (q : Row) → i < length l
     → howMany p (set l i q) + cond (p (getD l i noRow)) 1 0 ≡ howMany p l + cond (p q) 1 0

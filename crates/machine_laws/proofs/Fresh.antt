@@ -2,7 +2,7 @@
 use mathlib.Core.Path.{_≡_, refl}
 use mathlib.Core.Bool.{Bool, true}
 use mathlib.Core.List.{List, [], _∷_, _++_}
-use Prim.Native.Nat.{ℕ, zero, suc, _+_, _-_, _≤_, _<_, _^_}
+use Prim.Native.Nat.{ℕ, zero, suc, _-_, _≤_, _^_}
 use native.Mathlib.Omega.{arith}
 use lib.ListN.{length, replicate, length-append, length-replicate}
 use lib.Seq.{take-at, drop-at}

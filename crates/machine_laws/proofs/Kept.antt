@@ -1,8 +1,8 @@
 -- An accepted tick of a well formed machine gives a well formed machine. Assumes nothing.
-use mathlib.Core.Path.{_≡_, refl, _∙_, sym}
+use mathlib.Core.Path.{_≡_, refl, _∙_, ap, sym}
 use mathlib.Core.Bool.{Bool, true, false, not, cond, _&&_, _||_, true≢false}
 use mathlib.Core.List.{List}
-use Prim.Native.Nat.{ℕ, _+_, _-_, _≤_, _<_, _^_}
+use Prim.Native.Nat.{ℕ, _+_, _≤_, _<_, _^_}
 use native.Mathlib.Nat.{zero-add}
 use native.Mathlib.Omega.{arith}
 use lib.Dec.{leb, ltb, eqb}
@@ -13,6 +13,7 @@ use Rattle.refusals.specs.declared.Refusal.{Refusal}
 use Rattle.machine.specs.declared.Stage.{Stage}
 use Rattle.machine.specs.declared.Row.{Row}
 use Rattle.machine.specs.declared.Machine.{Machine}
+use Rattle.machine.specs.declared.Answer.{Answer}
 use Rattle.machine.specs.Rows.{noRow, withStage, inMask, Found, at, none, first, orElse, howMany, isHyper, hasBegun, hasBudget}
 use Rattle.machine.specs.WellFormed.{fieldsFit, stageFits, rowFits, begunRow, isBlank, wellFormed}
 use Rattle.machine.specs.TickRule.{pastLast, tooSoon, whileHyper, refuseAt, Verdict, refused, accepted}
@@ -248,3 +249,16 @@ formed-not-8 m mask p h e =
     go false none (at i) c q = let z : _≡_ {A = ℕ} 0 1 = cc in omega arith
     go false none none (at i) q = let z : _≡_ {A = ℕ} 0 1 = cc in omega arith
     go false none none none q = let z : _≡_ {A = ℕ} 0 1 = cc in omega arith
+
+pub step-not-8 : (m : Machine) (mask signal : ℕ) (early : Bool) (p : ℕ) → wellFormed m ≡ true
+    → stepOf m mask signal early .answer ≡ Answer.Refused (Refusal.NotWellFormed p) → ⊥
+unfolding stepOf taken
+step-not-8 m mask signal early p h e = go (verdict m mask) refl e
+  where
+    ran : (f : Found) → ranOn (m .count) (m .clock) (turned (m .clock) mask (m .rows)) signal early f .answer ≡ Answer.Refused (Refusal.NotWellFormed p) → ⊥
+    ran (at i) q = let z : _≡_ {A = ℕ} 0 1 = cc in omega arith
+    ran none q = let z : _≡_ {A = ℕ} 0 1 = cc in omega arith
+
+    go : (v : Verdict) → verdict m mask ≡ v → stepBy m mask signal early v .answer ≡ Answer.Refused (Refusal.NotWellFormed p) → ⊥
+    go (refused x) f q = let z : x ≡ Refusal.NotWellFormed p = cc in formed-not-8 m mask p h (f ∙ ap refused z)
+    go accepted f q = ran (chosen (turned (m .clock) mask (m .rows))) q

@@ -2,7 +2,8 @@
 -- Assumes nothing.
 use mathlib.Core.Path.{_≡_, refl}
 use Rattle.least.specs.Search.{firstWhere}
-use Rattle.plan.specs.Numbers.{numberAt, tableBytes, numbersIn, tableOf}
+use Rattle.least.specs.Lists.{listOf}
+use Rattle.plan.specs.Numbers.{numberAt, tableBytes, tableOf}
 use Rattle.plan.specs.PlanFile.{contents, bodies, fileOf, sectionsFrom, sectionsOf, bodyOf, rowsKind, scriptKind, startAt, wrongKind, wrongRecord}
 use Rattle.plan.specs.PlanFile.{firstWrongRecord, asked, firstEntry, entriesRefusal, readRefusal, partOf}
 use Rattle.plan.specs.Writer.{planOf, planFile, writeRefusal}
@@ -18,7 +19,7 @@ unfolding firstWhere numberAt sectionsFrom sectionsOf bodyOf startAt wrongKind w
 parts-of-p2 = (refl, refl)
 
 pub table-of-p2 : tableOf rowsOfP2 ≡ table
-unfolding numberAt numbersIn
+unfolding numberAt listOf
 table-of-p2 = refl
 
 pub reads-right : ReadsRight reads

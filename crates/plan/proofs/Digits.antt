@@ -9,6 +9,7 @@ use native.Mathlib.Omega.{arith}
 use lib.Arith.{digits-div, digits-mod}
 use lib.ListN.{length, getD, take, drop}
 use lib.Seq.{drop-cons, take-add, take-suc, take-all, drop-at, getD-drop}
+use Rattle.least.specs.Lists.{listOf}
 use Rattle.plan.specs.Numbers.{numberAt, bytesOf, tableBytes, numbersIn, tableOf, AllBelow}
 
 -- a number by its four digits to the base 256
@@ -102,7 +103,7 @@ table-append (x ∷ xs) ys = ap (λ (r : List ℕ). bytesOf x ++ r) (table-appen
 
 -- fours of bytes, read and written again
 bytes-again : (f : List ℕ) → AllBelow 256 f → (n : ℕ) → 4 * n ≤ length f → tableBytes (numbersIn f n) ≡ take (4 * n) f
-unfolding tableBytes numbersIn
+unfolding tableBytes listOf
 bytes-again f b zero h = refl
 bytes-again f b (suc n) h =
     let z : 4 * n + 4 ≡ 4 * suc n = omega arith in
@@ -127,7 +128,7 @@ number-in-table (x ∷ xs) (suc k) h b =
     ∙ number-in-table xs k (omega arith) (λ j q. b (suc j) (omega arith))
 
 numbers-again : (t : List ℕ) → AllBelow 4294967296 t → (n : ℕ) → n ≤ length t → numbersIn (tableBytes t) n ≡ take n t
-unfolding numbersIn
+unfolding listOf
 numbers-again t b zero h = refl
 numbers-again t b (suc n) h =
     ap (λ (r : List ℕ). r ++ (numberAt (tableBytes t) (4 * n) ∷ [])) (numbers-again t b n (omega arith))

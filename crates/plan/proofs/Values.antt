@@ -1,14 +1,15 @@
 -- Bodies as values: each way out of the functions that read them.
 -- Assumes nothing.
 use mathlib.Core.Path.{_≡_, refl, sym, ap, _∙_}
-use mathlib.Core.List.{List, [], _∷_, _++_}
-use Prim.Native.Nat.{ℕ, zero, suc, _+_, _*_, _/_, _%_, _≤_, _<_}
+use mathlib.Core.List.{List, _++_}
+use Prim.Native.Nat.{ℕ, suc, _+_, _*_, _/_, _%_, _≤_, _<_}
 use native.Mathlib.Numerals.{add-one}
-use native.Mathlib.Omega.{arith}
 use borrow.Author.Tests.{lt-ltb, le-ltb, eq-eqb, ne-eqb}
 use lib.Dec.{eqb}
-use lib.ListN.{length, getD, drop, set, length-append}
+use lib.ListN.{length, getD, drop, set}
 use lib.Seq.{drop-cons, set-at, append-snoc}
+use Rattle.least.specs.Lists.{listOf}
+use Rattle.least.proofs.Lists.{length-list}
 use Rattle.plan.specs.declared.Recorded.the-variants.{Record, Missing}
 use Rattle.plan.specs.declared.Taken.{Taken}
 use Rattle.plan.specs.declared.Taken.the-variants.{Numbers, NotInFours, TooShort}
@@ -27,14 +28,12 @@ record-missing s i h = rw (le-ltb _ _ h)
 
 -- TABLES
 pub numbers-length : (f : List ℕ) (n : ℕ) → length (numbersIn f n) ≡ n
-unfolding numbersIn
-numbers-length f zero = refl
-numbers-length f (suc n) = omega (arith, length-append (numbersIn f n) (numberAt f (4 * n) ∷ []), numbers-length f n)
+numbers-length f n = length-list (λ i. numberAt f (4 * i)) n
 
 -- one number more
 pub numbers-step : (f lent : List ℕ) (i : ℕ) → i < length lent
     → set (numbersIn f i ++ drop i lent) i (numberAt f (4 * i)) ≡ numbersIn f (i + 1) ++ drop (i + 1) lent
-unfolding numbersIn
+unfolding listOf
 numbers-step f lent i h =
     ap (λ (l : List ℕ). set (numbersIn f i ++ l) i (numberAt f (4 * i))) (drop-cons lent i 0 h)
     ∙ set-at (numbersIn f i) (getD lent i 0) (drop (suc i) lent) (numberAt f (4 * i)) i (numbers-length f i)

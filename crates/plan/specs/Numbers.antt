@@ -1,8 +1,9 @@
 -- Numbers of 32 bits as bytes: document 01, "The plan file", "All numbers are little-endian".
 -- Assumes nothing.
 use mathlib.Core.List.{List, [], _∷_, _++_}
-use Prim.Native.Nat.{ℕ, zero, suc, _+_, _*_, _/_, _%_, _<_}
+use Prim.Native.Nat.{ℕ, _+_, _*_, _/_, _%_, _<_}
 use lib.ListN.{length, getD}
+use Rattle.least.specs.Lists.{listOf}
 
 -- the number in the four bytes from k on, the lowest byte first
 unfoldable pub numberAt : List ℕ → ℕ → ℕ
@@ -18,9 +19,8 @@ tableBytes [] = []
 tableBytes (x ∷ xs) = bytesOf x ++ tableBytes xs
 
 -- the numbers in the first n fours of bytes
-unfoldable pub numbersIn : List ℕ → ℕ → List ℕ
-numbersIn f zero = []
-numbersIn f (suc n) = numbersIn f n ++ (numberAt f (4 * n) ∷ [])
+abbrev pub numbersIn : List ℕ → ℕ → List ℕ
+numbersIn f n = listOf (λ i. numberAt f (4 * i)) n
 
 -- the table of numbers that the bytes of rows hold
 abbrev pub tableOf : List ℕ → List ℕ

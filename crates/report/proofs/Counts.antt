@@ -1,14 +1,14 @@
 -- Counters that are kept tick by tick are demand 3's counts of the ticks taken. Assumes nothing.
-use mathlib.Core.Path.{_≡_, refl, sym, ap, _∙_}
+use mathlib.Core.Path.{_≡_, refl, ap, _∙_}
 use mathlib.Core.Logic.{_≢_}
 use mathlib.Core.Bool.{Bool, true, false, _&&_}
-use mathlib.Core.List.{List, [], _∷_, _++_, append-nil}
+use mathlib.Core.List.{List, [], _++_, append-nil}
 use Prim.Native.Nat.{ℕ, zero, suc, _+_, _-_, _≤_, _<_}
 use native.Mathlib.Decide.{ℕ-discrete, decLe}
 use native.Mathlib.Numerals.{add-one}
 use native.Mathlib.Omega.{arith}
 use lib.Dec.{eqb}
-use lib.ListN.{length, getD, set, replicate, length-append, length-replicate, getD-replicate}
+use lib.ListN.{length, getD, set, replicate, getD-replicate}
 use lib.Seq.{getD-set-same, getD-set-other}
 use borrow.Author.Tests.{eq-eqb, ne-eqb}
 use Rattle.least.specs.Sums.{sum}
@@ -24,7 +24,6 @@ use Rattle.demands.specs.Runs.{Tick, TakenTick, Run, takenBy, after, run}
 use Rattle.demands.specs.Jobs.{isOutput, isGuestOf, isHypertaskOf, brought, guestGives, hypertaskGives, one, numberOf}
 use Rattle.demands.specs.Jobs.{jobsArrived, guestOutputsOf, hypertaskOutputsOf, jobsOpen}
 use Rattle.demands.proofs.TakenTicks.{arrived-more, guest-outputs-of-more, hypertask-outputs-of-more}
-use Rattle.text.specs.Lines.{taskLine}
 use Rattle.report.specs.Report.{taskLines}
 use Rattle.report.specs.Inside.{Counters, Added, guestIn, hypertaskIn, ifOutput, bringsTo, guestGivesTo, hypertaskGivesTo}
 use Rattle.report.specs.Inside.{Totals, Balance, Balanced, totalLine, totalLines}

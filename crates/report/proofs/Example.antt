@@ -11,7 +11,7 @@ use Rattle.machine.specs.WellFormed.{fieldsFit, stageFits, isBlank, wellFormed}
 use Rattle.machine.specs.TickRule.{verdict, chosen, turned, taken, stepOf}
 use Rattle.machine.specs.Fresh.{freshRows, freshAt}
 use Rattle.start.specs.Start.{rowOf, startAnswer, startOf}
-use Rattle.plan.specs.Numbers.{numberAt, numbersIn}
+use Rattle.plan.specs.Numbers.{numberAt}
 use Rattle.plan.specs.PlanFile.{sectionsFrom, sectionsOf, bodyOf, wrongKind, startAt, wrongRecord, firstWrongRecord, asked, firstEntry}
 use Rattle.plan.specs.PlanFile.{entriesRefusal, readRefusal, partOf}
 use Rattle.demands.specs.Runs.{after, onward}
@@ -24,7 +24,7 @@ pub example : textOf exampleFile ≡ exampleText
 unfolding firstWhere up sum largest listOf flat B demand activeSide activePeriod releases startDemand startSide start jobResponse worst response E
     begunByHypertask begunByGuest bound below F windowSide WA WE guest tableCheck rowByRow hypertaskCheck guestCheck solved
     age firstFrom mapFrom every howMany fieldsFit stageFits isBlank wellFormed verdict chosen turned taken stepOf freshRows freshAt
-    rowOf startAnswer startOf numberAt numbersIn sectionsFrom sectionsOf bodyOf wrongKind startAt wrongRecord firstWrongRecord asked firstEntry
+    rowOf startAnswer startOf numberAt sectionsFrom sectionsOf bodyOf wrongKind startAt wrongRecord firstWrongRecord asked firstEntry
     entriesRefusal readRefusal partOf after onward latest guestOutputs hypertaskOutputs jobsArrived guestOutputsOf hypertaskOutputsOf jobsOpen
     digitsIn digitsOf spaced rowLines ticksFrom taskLines tickLines tableText textOf
 example = refl

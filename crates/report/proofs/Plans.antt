@@ -1,19 +1,17 @@
 -- What the text needs to know of a plan: its rows fit 128 numbers, and no part is longer than the longest file. Assumes nothing.
-use mathlib.Core.Path.{_≡_, refl, sym, ap, _∙_}
+use mathlib.Core.Path.{_≡_, ap, _∙_}
 use mathlib.Core.Bool.{Bool, true, false, cond}
-use mathlib.Core.List.{List, [], _∷_, _++_}
-use mathlib.Core.Option.{Option, none, some}
-use Prim.Native.Nat.{ℕ, zero, suc, _+_, _*_, _/_, _%_, _≤_, _<_}
+use mathlib.Core.List.{List}
+use mathlib.Core.Option.{none}
+use Prim.Native.Nat.{ℕ, zero, suc, _/_, _%_, _≤_, _<_}
 use native.Mathlib.Omega.{arith}
 use lib.Dec.{eqb, ltb}
 use lib.ListN.{length, take, drop, replicate, length-take, length-drop}
 use lib.Seq.{take-at}
 use borrow.Author.Tests.{eq-eqb, lt-ltb, le-ltb, ltb-false}
-use Rattle.refusals.specs.declared.Refusal.{Refusal}
 use Rattle.plan.specs.Numbers.{tableOf, AllBelow}
 use Rattle.plan.specs.Bodies.{tickAt, recordOf, takenOf, afterTaken, Takes}
 use Rattle.plan.specs.declared.Tick.{Tick}
-use Rattle.plan.specs.declared.Recorded.{Recorded}
 use Rattle.plan.specs.declared.Recorded.the-variants.{Record, Missing}
 use Rattle.plan.specs.PlanFile.{sectionAt, sectionsFrom, sectionsOf, bodyOf, readRefusal, partOf, rowsKind, scriptKind, entryAt, count}
 use Rattle.plan.specs.declared.Taken.{Taken}

@@ -1,12 +1,11 @@
 -- The rows' lines from the analysis's results. Assumes nothing.
 use mathlib.Core.Path.{_≡_, refl, sym, ap, _∙_}
-use mathlib.Core.List.{List, [], _∷_, _++_}
+use mathlib.Core.List.{List, [], _++_}
 use Prim.Native.Nat.{ℕ, zero, suc, _+_, _-_, _*_, _≤_, _<_}
 use native.Mathlib.Numerals.{add-one}
 use native.Mathlib.Omega.{arith}
 use lib.ListN.{length, getD, drop}
 use Rattle.least.proofs.Lists.{flat-at}
-use Rattle.equations.specs.Table.{rows}
 use Rattle.equations.specs.Hypertask.{response, valueOf, E}
 use Rattle.equations.specs.Guest.{guest}
 use Rattle.equations.specs.Analysis.{analysis, threeOf, results, resultsAfter}

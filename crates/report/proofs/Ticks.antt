@@ -1,6 +1,6 @@
 -- A script's ticks one after the other: the run so far, and the lines that are left. Assumes nothing.
-use mathlib.Core.Path.{_≡_, refl, sym, ap, _∙_}
-use mathlib.Core.List.{List, [], _∷_, _++_}
+use mathlib.Core.Path.{_≡_, sym, ap, _∙_}
+use mathlib.Core.List.{List, [], _++_}
 use Prim.Native.Nat.{ℕ, zero, suc, _+_, _-_, _≤_, _<_}
 use native.Mathlib.Numerals.{add-one}
 use native.Mathlib.Omega.{arith}
@@ -11,7 +11,7 @@ use Rattle.machine.specs.declared.Stepped.{Stepped}
 use Rattle.machine.specs.TickRule.{stepOf}
 use Rattle.plan.specs.declared.Tick.{Tick as PlanTick}
 use Rattle.plan.specs.Bodies.{tickAt}
-use Rattle.demands.specs.Runs.{Tick, TakenTick, Run, takenBy, after, onward, run}
+use Rattle.demands.specs.Runs.{Tick, Run, takenBy, after, onward, run}
 use Rattle.text.specs.Lines.{tickLine}
 use Rattle.report.specs.Report.{tickOf, ticksFrom, tickLines}
 

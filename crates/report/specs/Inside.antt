@@ -12,7 +12,7 @@ use Rattle.machine.specs.declared.Mark.{Mark}
 use Rattle.machine.specs.declared.Taken.{Taken}
 use Rattle.machine.specs.declared.Answer.{Answer}
 use Rattle.demands.specs.Runs.{Tick, TakenTick, run}
-use Rattle.demands.specs.Jobs.{isOutput, isGuestOf, isHypertaskOf, one, jobsArrived, guestOutputsOf, hypertaskOutputsOf, jobsOpen}
+use Rattle.demands.specs.Jobs.{one, jobsArrived, guestOutputsOf, hypertaskOutputsOf, jobsOpen}
 use Rattle.text.specs.Lines.{rowLine, taskLine}
 
 -- a counter for each place of a machine, with room for one more

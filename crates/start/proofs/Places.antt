@@ -1,35 +1,27 @@
 -- Laws of a fresh machine's places, and of the E of each row among the analysis's results.
 -- Assumes nothing.
-use mathlib.Core.Path.{_≡_, refl, sym, ap, _∙_}
-use mathlib.Core.Logic.{_⊎_, ⊎-elim}
-use mathlib.Core.List.{List, [], _∷_, _++_, append-assoc}
+use mathlib.Core.Path.{_≡_, refl, ap, _∙_}
+use mathlib.Core.List.{List, [], _∷_, _++_}
 use Prim.Native.Nat.{ℕ, zero, suc, _+_, _-_, _*_, _≤_, _<_}
-use native.Mathlib.Nat.{lt-irrefl, eq-or-lt-of-le, le-of-suc-le-suc}
-use native.Mathlib.Numerals.{add-one}
 use native.Mathlib.Omega.{arith}
 use lib.ListN.{length, getD, set, drop, replicate, length-append, length-replicate, length-drop}
-use lib.Seq.{set-append-seam, getD-append-add}
 use Rattle.least.specs.Lists.{listOf}
 use Rattle.least.proofs.Lists.{length-list, fill-more, length-flat, flat-at}
 use Rattle.refusals.specs.declared.Refusal.{Refusal}
-use Rattle.equations.specs.Table.{rows, T, D, C, K, Sound}
-use Rattle.equations.specs.Hypertask.{response, valueOf, E}
-use Rattle.equations.specs.Guest.{guest}
-use Rattle.equations.specs.Analysis.{tableCheck, resultsCheck, andThen, solved, analysis, threeOf, results, resultsAfter}
+use Rattle.equations.specs.Table.{rows}
+use Rattle.equations.specs.Hypertask.{E}
+use Rattle.equations.specs.Analysis.{tableCheck, andThen, solved, analysis, threeOf, results, resultsAfter}
 use Rattle.equations.specs.declared.Checked.{Checked}
 use Rattle.equations.specs.declared.Checked.the-variants.{Passed, Stopped}
-use Rattle.equations.specs.declared.Answer.{Answer}
 use Rattle.equations.specs.declared.Answer.the-variants.{Accepted, Refused}
 use Rattle.equations.proofs.Checks.{refused-1-to-3, entered, results-fit}
-use Rattle.equations.proofs.Exactly.{table-sound, Passes, passes}
+use Rattle.equations.proofs.Exactly.{table-sound, passes}
 use Rattle.machine.specs.Rows.{noRow, withStage, mapFrom}
 use Rattle.machine.specs.Fresh.{freshRows, freshAt}
 use Rattle.machine.specs.declared.Stage.{Stage}
 use Rattle.machine.specs.declared.Row.{Row}
-use Rattle.machine.specs.declared.Machine.{Machine}
-use Rattle.start.specs.Start.{rowOf, rowsOf, startAnswer, machineBy, startOf}
+use Rattle.start.specs.Start.{rowOf, rowsOf, startAnswer, startOf}
 use Rattle.start.specs.Inside.{Analysed, freshPlaces}
-use Rattle.start.specs.declared.Started.{Started}
 
 -- ## The places
 

@@ -1,13 +1,13 @@
 -- Laws of `Put` and of digits. Assumes nothing.
 use native.Mathlib.Nat.{pow-suc}
-use Prim.Native.Nat.{ℕ, zero, suc, _+_, _/_, _%_, _^_, _<_, _≤_, min, max}
+use Prim.Native.Nat.{ℕ, zero, suc, _+_, _/_, _%_, _^_, _<_, _≤_}
 use mathlib.Core.Path.{_≡_, refl, sym, ap, _∙_}
 use mathlib.Core.Bool.{Bool, true, false}
-use mathlib.Core.List.{List, [], _∷_, _++_, append-nil, append-assoc}
+use mathlib.Core.List.{List, [], _∷_, _++_}
 use native.Mathlib.Numerals.{add-one}
 use native.Mathlib.Omega.{arith}
-use lib.ListN.{length, take, drop, getD, set, length-append, length-set, drop-of-length-le}
-use lib.Seq.{sets, set-out, length-sets, drop-cons, take-at, drop-at, sets-eq, length-take-le}
+use lib.ListN.{length, drop, getD, set, length-append, length-set}
+use lib.Seq.{sets, set-out, length-sets, drop-cons, sets-eq}
 use lib.Dec.{leb, ltb}
 use borrow.Author.Tests.{leb-true, leb-false, lt-ltb, le-ltb, ltb-true, ltb-false}
 use Rattle.text.specs.Put.{Put, digitsIn, digitsOf, spaced, lastPlace}

@@ -3,7 +3,7 @@ use mathlib.Core.List.{List, _++_}
 use denote.Ref.{now}
 use Prim.Native.Nat.{ℕ, _*_}
 use native.Mathlib.Omega.{arith}
-use lib.ListN.{length, drop}
+use lib.ListN.{drop}
 use Rattle.equations.specs.Table.{rows}
 use Rattle.equations.specs.Analysis.{hypertaskCheck, guestCheck}
 use Rattle.equations.specs.declared.Checked.the-variants.{Passed}

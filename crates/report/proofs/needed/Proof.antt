@@ -1,5 +1,3 @@
-use native.Mathlib.Omega.{arith}
-use Rattle.text.proofs.Laws.{put-counts}
 use borrow.Author.Needs.{needs}
 use Rattle.report.proofs.needed.Statement.{statement}
 use Rattle.report.proofs.needed.Tie as tie

@@ -1,10 +1,8 @@
-use mathlib.Core.Path.{_≡_, ap}
+use mathlib.Core.Path.{ap}
 use Prim.Native.Nat.{ℕ}
 use denote.Ref.{now}
-use native.Mathlib.Omega.{arith}
 use Rattle.equations.specs.Table.{T, D, C, K}
 use Rattle.machine.specs.declared.Stage.{Stage}
-use Rattle.machine.specs.declared.Row.{Row}
 use Rattle.start.specs.Start.{rowOf}
 use borrow.Author.Needs.{needs}
 use Rattle.start.proofs.row_of.Statement.{statement}

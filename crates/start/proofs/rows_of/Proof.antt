@@ -1,9 +1,8 @@
 use lib.ListN.{replicate}
 use mathlib.Core.List.{List}
-use Rattle.start.specs.Start.{rowOf}
-use mathlib.Core.Path.{_≡_, refl, ap, _∙_}
+use mathlib.Core.Path.{_≡_, ap, _∙_}
 use denote.Ref.{now}
-use Prim.Native.Nat.{ℕ, _+_, _-_, _≤_}
+use Prim.Native.Nat.{_-_, _≤_}
 use native.Mathlib.Omega.{arith}
 use lib.ListN.{set}
 use Rattle.machine.specs.declared.Row.{Row}

@@ -1,10 +1,7 @@
-use mathlib.Core.Path.{_≡_, refl, sym, ap, subst, _∙_}
-use mathlib.Core.List.{List, []}
+use mathlib.Core.Path.{refl, sym, ap, _∙_}
+use mathlib.Core.List.{List}
 use denote.Ref.{now}
-use Prim.Native.Nat.{ℕ}
-use native.Mathlib.Omega.{arith}
 use lib.ListN.{replicate}
-use Rattle.equations.specs.declared.Answer.{Answer}
 use Rattle.equations.specs.declared.Answer.the-variants.{Accepted, Refused}
 use Rattle.machine.specs.declared.Row.{Row}
 use Rattle.start.proofs.Places.{same-answer, accepted-analysed, started-refused, started-accepted, analysed-tasks}

@@ -1,4 +1,3 @@
-use mathlib.Core.Path.{_≡_}
 use denote.Ref.{now}
 use native.Mathlib.Omega.{arith}
 use Rattle.equations.specs.Guest.{bound}

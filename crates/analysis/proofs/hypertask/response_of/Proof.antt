@@ -1,7 +1,6 @@
 use mathlib.Core.Path.{_≡_, ap, sym, _∙_}
-use mathlib.Core.Option.{Option, some}
+use mathlib.Core.Option.{some}
 use denote.Ref.{now}
-use Prim.Native.Nat.{ℕ}
 use native.Mathlib.Omega.{arith}
 use Rattle.least.specs.Sums.{up}
 use Rattle.least.proofs.Sums.{up-mul≤}

@@ -5,7 +5,7 @@ use native.Mathlib.Omega.{arith}
 use Rattle.equations.specs.Table.{rows}
 use Rattle.equations.specs.Guest.{guest}
 use Rattle.equations.specs.Analysis.{guestCheck}
-use Rattle.equations.specs.declared.Response.the-variants.{Is, Fails}
+use Rattle.equations.specs.declared.Response.the-variants.{Is}
 use Rattle.equations.proofs.Bounds.{T≤, D≤, E≤D}
 use Rattle.equations.proofs.Jobs.{guest≤}
 use Rattle.equations.proofs.Checks.{stopped-passed, Rowwise, rows-start, rows-stop, rows-next, rows-end}

@@ -5,6 +5,7 @@ use denote.Ref.{now}
 use Prim.Native.Nat.{ℕ, _-_, _≤_}
 use native.Mathlib.Omega.{arith}
 use lib.ListN.{length, drop, set, length-set}
+use Rattle.least.specs.Lists.{listOf}
 use Rattle.plan.specs.Numbers.{numbersIn}
 use Rattle.plan.proofs.Values.{numbers-step}
 use Rattle.plan.proofs.bodies.take_all.Statement.{statement}
@@ -17,7 +18,7 @@ abbrev μ-loop : tie.MeasureT-loop
 μ-loop rows table₀ n i₀ table i = n - i
 
 loop-holds : tie.Need-loop-holds Inv-loop μ-loop
-unfolding numbersIn
+unfolding listOf
 loop-holds c = (omega arith, refl, refl)
 
 number-32-requires : tie.Need-number-32-requires Inv-loop μ-loop
