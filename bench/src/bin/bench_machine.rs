@@ -128,8 +128,23 @@ fn scenarios(rows: usize) -> Vec<Scenario> {
             0,
         ),
         arrival_and_enforcement(rows),
+        same("refused with 8, first", damaged(rows, 0), 0),
+        same("refused with 8, last", damaged(rows, rows - 1), 0),
+        same("refused with 9", machine(rows, 1 << 40, 1, Stage::Never), 0),
         same("refused with 11", machine(rows, clock, 1, Stage::Closed { arrival: clock }), all),
+        same(
+            "refused with 12",
+            machine(rows, u64::from(LONG), 1, Stage::Hyper { arrival: 0, left: LONG.into() }),
+            all,
+        ),
     ]
+}
+
+/// One row has no guest budget, so that the state isn't well formed.
+fn damaged(rows: usize, place: usize) -> Machine {
+    let mut machine = machine(rows, 0, 1, Stage::Never);
+    machine.rows[place].guest = 0;
+    machine
 }
 
 /// Rows so long that nothing ends within the ticks measured.

@@ -13,7 +13,7 @@ use Rattle.machine.specs.declared.Row.{Row}
 use Rattle.machine.specs.Rows.{noRow, inMask, age, Found, at, none, firstFrom, first, orElse, mapFrom, isHyper, hasBegun, hasBudget}
 use Rattle.machine.specs.WellFormed.{rowFits, fieldsFit, stageFits}
 use Rattle.machine.specs.TickRule.{youngerThan, pastLast, tooSoon, whileHyper, enforced, begun, waiting, ready, chosen, turned}
-use Rattle.machine.specs.OnePass.{place, misplaced, arrives, willWait, willBeReady, seenFrom, chosenBy, turnedRow}
+use Rattle.machine.specs.OnePass.{place, misplaced, arrives, willWait, willBeReady, seenIn, chosenBy, turnedRow}
 use Rattle.machine.proofs.Tests.{both, and-false, fields-say}
 use Rattle.machine.proofs.Searches.{none-cons, found-at, below, or-place, map-map}
 
@@ -129,8 +129,8 @@ after-all clock count mask i (r ∷ rs) t =
 
 -- who runs, by what the pass found
 pub chosen-law : (clock count mask : ℕ) (moved : Bool) (rows : List Row) → length rows ≡ 32 → Taking clock count mask 0 rows
-    → chosenBy (seenFrom clock count mask moved 0 rows) ≡ place (chosen (turned clock mask rows))
-unfolding chosen seenFrom
+    → chosenBy (seenIn clock count mask moved rows) ≡ place (chosen (turned clock mask rows))
+unfolding chosen seenIn
 chosen-law clock count mask moved rows l t =
     let q = after-all clock count mask 0 rows t in
     let ready-first : Found = first (willBeReady clock count mask) rows in

@@ -3,14 +3,15 @@ use mathlib.Core.Path.{_≡_, refl, _∙_, ap, sym}
 use mathlib.Core.Bool.{Bool, true, false, not, _&&_, cond, true≢false}
 use mathlib.Core.List.{List, [], _∷_, _++_}
 use Prim.Native.Nat.{ℕ, zero, suc, _+_, _-_, _≤_, _<_}
+use native.Mathlib.Numerals.{add-one}
 use native.Mathlib.Omega.{arith}
 use lib.Dec.{ltb}
 use lib.ListN.{length, getD, take, drop, set}
-use lib.Seq.{drop-cons, drop-nil, take-nil, take-suc, append-snoc, length-take-le, getD-at, set-at}
+use lib.Seq.{drop-cons, drop-nil, take-nil, take-suc, append-snoc, length-take-le, set-at}
 use borrow.Author.Tests.{ltb-true, ltb-false, lt-ltb}
 use Rattle.machine.specs.declared.Row.{Row}
 use Rattle.machine.specs.Rows.{noRow, Found, at, none, firstFrom, first, orElse, mapFrom, every, howMany}
-use Rattle.machine.specs.OnePass.{place, isNone}
+use Rattle.machine.specs.OnePass.{place, isNone, firstKept}
 
 -- what a place that was found has
 pub record Placed (p : ℕ → Row → Bool) (l : List Row) (j i : ℕ) : Type 0 where
@@ -46,10 +47,6 @@ cond-none false j x h = (refl, h)
 pub none-cons : (p : ℕ → Row → Bool) (i : ℕ) (r : Row) (rs : List Row) → firstFrom p i (r ∷ rs) ≡ none → (p i r ≡ false) × (firstFrom p (suc i) rs ≡ none)
 unfolding firstFrom
 none-cons p i r rs h = cond-none (p i r) i (firstFrom p (suc i) rs) h
-
-pub none-intro : (p : ℕ → Row → Bool) (i : ℕ) (r : Row) (rs : List Row) → p i r ≡ false → firstFrom p (suc i) rs ≡ none → firstFrom p i (r ∷ rs) ≡ none
-unfolding firstFrom
-none-intro p i r rs h e = rw h e
 
 -- none was found: p fails at each place
 pub none-at : (p : ℕ → Row → Bool) (l : List Row) (j k : ℕ) → firstFrom p j l ≡ none → k < length l → p (j + k) (getD l k noRow) ≡ false
@@ -145,15 +142,67 @@ every-place p q n i (r ∷ rs) = go (ltb i n) refl (every-place p q n (suc i) rs
         let y : n - suc i ≡ 0 = omega arith in
         rw (z, e) (past (q r) (rw y at ih))
 
+-- one row more at the end
+
+pub first-more : (p : ℕ → Row → Bool) (j : ℕ) (l : List Row) (r : Row)
+    → firstFrom p j (l ++ (r ∷ [])) ≡ orElse (firstFrom p j l) (cond (p (j + length l) r) (at (j + length l)) none)
+unfolding firstFrom
+first-more p j [] r = let z : j + 0 ≡ j = omega arith in rw z
+first-more p j (x ∷ xs) r =
+    let z : suc j + length xs ≡ j + suc (length xs) = omega arith in
+    go (p j x) (rw z at (first-more p (suc j) xs r))
+  where
+    end : Found
+    end = cond (p (j + suc (length xs)) r) (at (j + suc (length xs))) none
+
+    go : (b : Bool) → firstFrom p (suc j) (xs ++ (r ∷ [])) ≡ orElse (firstFrom p (suc j) xs) end
+        → cond b (at j) (firstFrom p (suc j) (xs ++ (r ∷ []))) ≡ orElse (cond b (at j) (firstFrom p (suc j) xs)) end
+    go true e = refl
+    go false e = e
+
+first-end : (p : ℕ → Row → Bool) (l : List Row) (r : Row) → first p (l ++ (r ∷ [])) ≡ orElse (first p l) (cond (p (length l) r) (at (length l)) none)
+first-end p l r = let z : 0 + length l ≡ length l = omega arith in rw z at (first-more p 0 l r)
+
+pub none-more : (p : ℕ → Row → Bool) (l : List Row) (r : Row) → first p l ≡ none → p (length l) r ≡ false → first p (l ++ (r ∷ [])) ≡ none
+none-more p l r h e = first-end p l r ∙ rw (h, e)
+
+-- what was found first stays
+kept-or : (b : Bool) (f : Found) (i : ℕ) → ((k : ℕ) → f ≡ at k → k < 32) → place (orElse f (cond b (at i) none)) ≡ cond b (firstKept (place f) i) (place f)
+kept-or true (at k) i h = rw (lt-ltb k 32 (h k refl))
+kept-or false (at k) i h = refl
+kept-or true none i h = refl
+kept-or false none i h = refl
+
+pub place-more : (p : ℕ → Row → Bool) (l : List Row) (r : Row) → length l ≤ 32
+    → place (first p (l ++ (r ∷ []))) ≡ cond (p (length l) r) (firstKept (place (first p l)) (length l)) (place (first p l))
+place-more p l r h =
+    ap place (first-end p l r) ∙ kept-or (p (length l) r) (first p l) (length l) (λ k e. let t = found-at p l k e in omega arith)
+
 -- counts
 
-pub count-drop : (p : Row → Bool) (l : List Row) (k : ℕ) → howMany p (drop k l) ≤ howMany p l
+pub count-more : (p : Row → Bool) (l : List Row) (r : Row) → howMany p (l ++ (r ∷ [])) ≡ cond (p r) (suc (howMany p l)) (howMany p l)
 unfolding howMany
-count-drop p l zero = omega arith
-count-drop p [] (suc k) = omega arith
-count-drop p (r ∷ rs) (suc k) = go (p r) (count-drop p rs k)
+count-more p [] r = refl
+count-more p (x ∷ xs) r = go (p x) (p r) (count-more p xs r)
   where
-    go : (b : Bool) → howMany p (drop k rs) ≤ howMany p rs → howMany p (drop k rs) ≤ cond b (suc (howMany p rs)) (howMany p rs)
+    n : ℕ
+    n = howMany p xs
+
+    go : (b c : Bool) → howMany p (xs ++ (r ∷ [])) ≡ cond c (suc n) n
+        → cond b (suc (howMany p (xs ++ (r ∷ [])))) (howMany p (xs ++ (r ∷ []))) ≡ cond c (suc (cond b (suc n) n)) (cond b (suc n) n)
+    go true true e = rw e
+    go true false e = rw e
+    go false true e = e
+    go false false e = e
+
+pub count-take : (p : Row → Bool) (l : List Row) (k : ℕ) → howMany p (take k l) ≤ howMany p l
+unfolding howMany
+count-take p l zero = omega arith
+count-take p [] (suc k) = omega arith
+count-take p (r ∷ rs) (suc k) = go (p r) (count-take p rs k)
+  where
+    go : (b : Bool) → howMany p (take k rs) ≤ howMany p rs
+        → cond b (suc (howMany p (take k rs))) (howMany p (take k rs)) ≤ cond b (suc (howMany p rs)) (howMany p rs)
     go true h = omega arith
     go false h = h
 
@@ -178,45 +227,43 @@ module _ (p : ℕ → Row → Bool) (q : Row → Bool) (same : (i : ℕ) (r : Ro
 
 -- maps over the rows
 
--- a map in place, from the last row to the first: what is left, and what is done
-module _ (f : ℕ → Row → Row) (rows next : List Row) (i : ℕ) (some : 0 < i) (long : i ≤ length rows)
-    (so-far : next ≡ take i rows ++ mapFrom f i (drop i rows)) where
-  cut : next ≡ take (i - 1) rows ++ getD rows (i - 1) noRow ∷ mapFrom f i (drop i rows)
-  cut =
-      let up : suc (i - 1) ≡ i = omega arith in
-      let t : take i rows ≡ take (i - 1) rows ++ (getD rows (i - 1) noRow ∷ []) = rw up at (take-suc rows (i - 1) noRow (omega arith)) in
-      so-far ∙ rw (t, append-snoc)
-
-  left : length (take (i - 1) rows) ≡ i - 1
-  left = length-take-le (i - 1) rows (omega arith)
-
-  pub map-reads : getD next (i - 1) noRow ≡ getD rows (i - 1) noRow
-  map-reads = rw cut (getD-at (take (i - 1) rows) (getD rows (i - 1) noRow) (mapFrom f i (drop i rows)) noRow (i - 1) left)
-
-  done : take (i - 1) rows ++ f (i - 1) (getD rows (i - 1) noRow) ∷ mapFrom f i (drop i rows) ≡ take (i - 1) rows ++ mapFrom f (i - 1) (drop (i - 1) rows)
-  unfolding mapFrom
-  done =
-      let up : suc (i - 1) ≡ i = omega arith in
-      let t : drop (i - 1) rows ≡ getD rows (i - 1) noRow ∷ drop i rows = rw up at (drop-cons rows (i - 1) noRow (omega arith)) in
-      rw (t, up)
-
-  pub map-stores : (q : Row) → q ≡ f (i - 1) (getD rows (i - 1) noRow) → set next (i - 1) q ≡ take (i - 1) rows ++ mapFrom f (i - 1) (drop (i - 1) rows)
-  map-stores q e =
-      rw (cut, set-at (take (i - 1) rows) (getD rows (i - 1) noRow) (mapFrom f i (drop i rows)) q (i - 1) left, e) done
-
-  -- a row that f doesn't change isn't written
-  pub map-keeps : getD rows (i - 1) noRow ≡ f (i - 1) (getD rows (i - 1) noRow) → next ≡ take (i - 1) rows ++ mapFrom f (i - 1) (drop (i - 1) rows)
-  map-keeps e = cut ∙ ap (λ r. take (i - 1) rows ++ r ∷ mapFrom f i (drop i rows)) e ∙ done
-
-pub map-map : (f g : ℕ → Row → Row) (i : ℕ) (l : List Row) → mapFrom g i (mapFrom f i l) ≡ mapFrom (λ j r. g j (f j r)) i l
+map-more : (f : ℕ → Row → Row) (j : ℕ) (l : List Row) (r : Row) → mapFrom f j (l ++ (r ∷ [])) ≡ mapFrom f j l ++ (f (j + length l) r ∷ [])
 unfolding mapFrom
-map-map f g i [] = refl
-map-map f g i (r ∷ rs) = ap (λ x. g i (f i r) ∷ x) (map-map f g (suc i) rs)
+map-more f j [] r = let z : j + 0 ≡ j = omega arith in rw z
+map-more f j (x ∷ xs) r =
+    let z : suc j + length xs ≡ j + suc (length xs) = omega arith in
+    ap (λ l. f j x ∷ l) (rw z at (map-more f (suc j) xs r))
 
 pub map-length : (f : ℕ → Row → Row) (l : List Row) (i : ℕ) → length (mapFrom f i l) ≡ length l
 unfolding mapFrom
 map-length f [] i = refl
 map-length f (r ∷ rs) i = ap suc (map-length f rs (suc i))
+
+-- a map in place: what is done, and what is left
+module _ (f : ℕ → Row → Row) (rows next : List Row) (i : ℕ) (some : i < length rows) (so-far : next ≡ mapFrom f 0 (take i rows) ++ drop i rows) where
+  left : length (mapFrom f 0 (take i rows)) ≡ i
+  left = map-length f (take i rows) 0 ∙ length-take-le i rows (omega arith)
+
+  cut : next ≡ mapFrom f 0 (take i rows) ++ getD rows i noRow ∷ drop (suc i) rows
+  cut = so-far ∙ rw (drop-cons rows i noRow some)
+
+  done : mapFrom f 0 (take i rows) ++ f i (getD rows i noRow) ∷ drop (suc i) rows ≡ mapFrom f 0 (take (i + 1) rows) ++ drop (i + 1) rows
+  done =
+      let k : length (take i rows) ≡ i = length-take-le i rows (omega arith) in
+      let n : 0 + length (take i rows) ≡ i = omega arith in
+      rw (add-one, take-suc rows i noRow some, map-more f 0 (take i rows) (getD rows i noRow), n, append-snoc)
+
+  pub map-stores : (q : Row) → q ≡ f i (getD rows i noRow) → set next i q ≡ mapFrom f 0 (take (i + 1) rows) ++ drop (i + 1) rows
+  map-stores q e = rw (cut, set-at (mapFrom f 0 (take i rows)) (getD rows i noRow) (drop (suc i) rows) q i left, e) done
+
+  -- a row that f doesn't change isn't written
+  pub map-keeps : getD rows i noRow ≡ f i (getD rows i noRow) → next ≡ mapFrom f 0 (take (i + 1) rows) ++ drop (i + 1) rows
+  map-keeps e = cut ∙ ap (λ r. mapFrom f 0 (take i rows) ++ r ∷ drop (suc i) rows) e ∙ done
+
+pub map-map : (f g : ℕ → Row → Row) (i : ℕ) (l : List Row) → mapFrom g i (mapFrom f i l) ≡ mapFrom (λ j r. g j (f j r)) i l
+unfolding mapFrom
+map-map f g i [] = refl
+map-map f g i (r ∷ rs) = ap (λ x. g i (f i r) ∷ x) (map-map f g (suc i) rs)
 
 pub map-at : (f : ℕ → Row → Row) (l : List Row) (i k : ℕ) → k < length l → getD (mapFrom f i l) k noRow ≡ f (i + k) (getD l k noRow)
 unfolding mapFrom

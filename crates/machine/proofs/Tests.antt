@@ -27,10 +27,6 @@ pub first-fails : (x y : Bool) → y ≡ true → (x && y) ≡ false → x ≡ f
 first-fails true y e h = absurd (true≢false (sym e ∙ h))
 first-fails false y e h = refl
 
-pub or-false-left : (x y : Bool) → (x || y) ≡ false → x ≡ false
-or-false-left true y e = absurd (true≢false e)
-or-false-left false y e = refl
-
 pub or-false-right : (x y : Bool) → (x || y) ≡ false → y ≡ false
 or-false-right true y e = absurd (true≢false e)
 or-false-right false y e = e

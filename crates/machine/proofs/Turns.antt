@@ -2,11 +2,12 @@
 -- Assumes nothing.
 use mathlib.Core.Path.{_≡_, refl, _∙_, ap, sym}
 use mathlib.Core.Bool.{Bool, true, false, not, _&&_, _||_, cond, true≢false}
-use mathlib.Core.List.{List, [], _∷_}
+use mathlib.Core.List.{List, [], _∷_, append-nil}
 use Prim.Native.Nat.{ℕ, suc, _+_, _-_, _≤_, _<_, _^_}
 use native.Mathlib.Omega.{arith}
 use lib.Dec.{leb, ltb, eqb}
-use lib.ListN.{length, getD}
+use lib.ListN.{length, getD, take, drop-of-length-le}
+use lib.Seq.{take-all}
 use borrow.Author.Tests.{lt-ltb, le-leb}
 use Rattle.refusals.specs.declared.Refusal.{Refusal}
 use Rattle.machine.specs.declared.Stage.{Stage}
@@ -17,12 +18,12 @@ use Rattle.machine.specs.declared.Judged.{Judged}
 use Rattle.machine.specs.Rows.{noRow, inMask, Found, at, none, mapFrom, howMany, isHyper, hasBudget}
 use Rattle.machine.specs.WellFormed.{begunRow, wellFormed}
 use Rattle.machine.specs.TickRule.{pastLast, tooSoon, whileHyper, Verdict, refused, accepted, verdict, enforced, chosen, turned}
-use Rattle.machine.specs.OnePass.{place, isDue, turnedRow, passedRow, seenFrom, pastFrom, chosenBy, orRefused, judgedBy}
+use Rattle.machine.specs.OnePass.{place, isDue, turnedRow, passedRow, seenIn, pastFrom, chosenBy, orRefused, judgedBy}
 use Rattle.machine.proofs.Tests.{and-true, not-leb}
 use Rattle.machine.proofs.Searches.{below, place-found, place-none, map-length}
 use Rattle.machine.proofs.Mask.{past-law}
 use Rattle.machine.proofs.Verdicts.{well-law, formed, pastIn, soonIn, hyperIn, passed}
-use Rattle.machine.proofs.Pass.{Passing}
+use Rattle.machine.proofs.Pass.{Free, Passing}
 use Rattle.machine.proofs.Choice.{Taking, taking-next, turned-law, arrives-law, chosen-law, chosen-runs}
 
 -- a row that is neither in the mask nor due stays
@@ -65,31 +66,40 @@ abbrev pub judgedAs : Machine → ℕ → Verdict → Judged
 judgedAs m mask (refused refusal) = Judged.Refused refusal
 judgedAs m mask accepted = Judged.Accepted (place (chosen (turned (m .clock) mask (m .rows))))
 
-module _ (m : Machine) (mask : ℕ) (w : Seen) (next : List Row) (p : Passing m mask 0 w next) where
-  unfit-test : (a b c : Bool) → (not a || (not b || not c)) ≡ not ((a && b) && c)
-  unfit-test true true c = refl
-  unfit-test true false c = refl
-  unfit-test false b c = refl
+module _ (m : Machine) (mask : ℕ) (w : Seen) (next : List Row) (p : Passing m mask 32 w next) where
+  all-rows : take 32 (m .rows) ≡ m .rows
+  all-rows = take-all 32 (m .rows) (omega (arith, p .long))
 
-  unfit-law : (ltb (m .count) 1 || (ltb 32 (m .count) || ltb (2 ^ 40) (m .clock))) ≡ not (wellFormed m)
+  soon-place : w .soon ≡ place (soonIn m mask)
+  soon-place = rw all-rows at (p .soon-place)
+
+  -- where no task came too soon
+  all-free : soonIn m mask ≡ none → Free m mask 32 w next
+  all-free h = p .free (let z : w .soon ≡ 32 = soon-place ∙ ap place h in omega arith)
+
+  seen-all : soonIn m mask ≡ none → w ≡ seenIn (m .clock) (m .count) mask (w .moved) (m .rows)
+  seen-all h = rw all-rows at (all-free h .seen)
+
+  unfit-test : (a b : Bool) → (not a || not b) ≡ not (a && b)
+  unfit-test true b = refl
+  unfit-test false b = refl
+
+  unfit-law : (ltb (m .count) 1 || ltb (2 ^ 40) (m .clock)) ≡ not (wellFormed m)
   unfit-law =
       rw (
         well-law m,
-        p .fit,
-        le-leb (howMany begunRow (m .rows)) 1 (p .one),
+        rw all-rows at (p .fit),
+        le-leb (howMany begunRow (m .rows)) 1 (rw all-rows at (p .one)),
+        le-leb (m .count) 32 (p .few),
+        and-true (leb 1 (m .count)),
         and-true (leb (m .clock) (2 ^ 40)),
         not-leb 1 (m .count),
-        not-leb (m .count) 32,
         not-leb (m .clock) (2 ^ 40),
-      ) (unfit-test (leb 1 (m .count)) (leb (m .count) 32) (leb (m .clock) (2 ^ 40)))
+      ) (unfit-test (leb 1 (m .count)) (leb (m .clock) (2 ^ 40)))
 
-  soon-place : w .soon ≡ place (soonIn m mask)
-  unfolding seenFrom
-  soon-place = ap (λ v. v .soon) (p .seen)
-
-  hyper-place : w .hyper ≡ place (hyperIn m mask)
-  unfolding seenFrom
-  hyper-place = ap (λ v. v .hyper) (p .seen)
+  hyper-place : soonIn m mask ≡ none → w .hyper ≡ place (hyperIn m mask)
+  unfolding seenIn
+  hyper-place h = ap (λ v. v .hyper) (seen-all h)
 
   -- a check that refuses, and one that lets the tick on
   refuses : (refusal : ℕ → Refusal) (f : Found) (x i : ℕ) (j : Judged) → ((k : ℕ) → f ≡ at k → k < 32) → x ≡ place f → f ≡ at i
@@ -108,7 +118,7 @@ module _ (m : Machine) (mask : ℕ) (w : Seen) (next : List Row) (p : Passing m 
   judged-law = go (wellFormed m) refl (eqb (m .clock) (2 ^ 40)) refl
     where
       runs : verdict m mask ≡ accepted → chosenBy w ≡ place (chosen (turned (m .clock) mask (m .rows)))
-      runs ok = ap chosenBy (p .seen) ∙ chosen-law (m .clock) (m .count) mask (w .moved) (m .rows) (p .long) (taking m mask ok)
+      runs ok = ap chosenBy (seen-all (passed m mask ok .apart)) ∙ chosen-law (m .clock) (m .count) mask (w .moved) (m .rows) (p .long) (taking m mask ok)
 
       yes : Judged
       yes = Judged.Accepted (chosenBy w)
@@ -138,13 +148,13 @@ module _ (m : Machine) (mask : ℕ) (w : Seen) (next : List Row) (p : Passing m 
           rw (unfit-law, e, t, q, r, s)
           (lets Refusal.NoSuchTask (pastIn m mask) past at-soon (past-place e) q
           ∙ lets Refusal.ArrivalTooSoon (soonIn m mask) (w .soon) at-hyper soon-place r
-          ∙ refuses Refusal.ArrivalWhileHyper (hyperIn m mask) (w .hyper) i yes (below (whileHyper mask) (m .rows) (p .long)) hyper-place s)
+          ∙ refuses Refusal.ArrivalWhileHyper (hyperIn m mask) (w .hyper) i yes (below (whileHyper mask) (m .rows) (p .long)) (hyper-place r) s)
       on e t none q none r none s =
           let ok : verdict m mask ≡ accepted = rw (e, t, q, r, s) in
           rw (unfit-law, e, t, q, r, s)
           (lets Refusal.NoSuchTask (pastIn m mask) past at-soon (past-place e) q
           ∙ lets Refusal.ArrivalTooSoon (soonIn m mask) (w .soon) at-hyper soon-place r
-          ∙ lets Refusal.ArrivalWhileHyper (hyperIn m mask) (w .hyper) yes hyper-place s
+          ∙ lets Refusal.ArrivalWhileHyper (hyperIn m mask) (w .hyper) yes (hyper-place r) s
           ∙ ap Judged.Accepted (runs ok))
 
       go : (x : Bool) → wellFormed m ≡ x → (y : Bool) → eqb (m .clock) (2 ^ 40) ≡ y
@@ -191,7 +201,10 @@ module _ (m : Machine) (mask : ℕ) (w : Seen) (next : List Row) (p : Passing m 
     room = passed m mask ok .room
 
     pub turned-rows : next ≡ turned (m .clock) mask (m .rows)
-    turned-rows = p .so-far ∙ passed-rows (m .clock) (m .count) mask 0 (m .rows) (taking m mask ok) ∙ sym (turned-law (m .clock) mask (m .rows))
+    turned-rows =
+        let end = drop-of-length-le (m .rows) {i = 32} (omega (arith, p .long)) in
+        all-free (passed m mask ok .apart) .so-far ∙ rw (all-rows, end) (append-nil (mapFrom (passedRow (m .clock) (m .count) mask) 0 (m .rows)))
+        ∙ passed-rows (m .clock) (m .count) mask 0 (m .rows) (taking m mask ok) ∙ sym (turned-law (m .clock) mask (m .rows))
 
     long-turned : length (turned (m .clock) mask (m .rows)) ≡ 32
     long-turned = rw (turned-law (m .clock) mask (m .rows)) (map-length (turnedRow (m .clock) mask) (m .rows) 0) ∙ p .long

@@ -5,14 +5,14 @@ use Prim.Native.Nat.{ℕ, _-_, _≤_, _<_, _^_}
 use native.Mathlib.Omega.{arith}
 use lib.Dec.{leb, eqb}
 use lib.ListN.{take, drop}
-use borrow.Author.Tests.{leb-true, eqb-false}
+use borrow.Author.Tests.{leb-true, lt-leb, eqb-false}
 use Rattle.refusals.specs.declared.Refusal.{Refusal}
 use Rattle.machine.specs.declared.Machine.{Machine}
 use Rattle.machine.specs.Rows.{Found, at, none, first, every, howMany}
 use Rattle.machine.specs.WellFormed.{rowFits, isBlank, begunRow, wellFormed}
 use Rattle.machine.specs.TickRule.{pastLast, tooSoon, whileHyper, Verdict, refused, accepted, refuseAt, verdict}
 use Rattle.machine.specs.OnePass.{isNone, misplaced}
-use Rattle.machine.proofs.Tests.{both}
+use Rattle.machine.proofs.Tests.{both, and-false}
 use Rattle.machine.proofs.Searches.{every-place, is-none}
 
 and-swap : (x y z : Bool) → (x && (y && z)) ≡ ((x && z) && y)
@@ -105,3 +105,7 @@ passed m mask h = go (wellFormed m) refl (eqb (m .clock) (2 ^ 40)) refl h
 pub verdict-unfit : (m : Machine) (mask : ℕ) → wellFormed m ≡ false → verdict m mask ≡ refused (Refusal.NotWellFormed 0)
 unfolding verdict
 verdict-unfit m mask h = rw h
+
+-- more than 32 rows
+pub too-many : (m : Machine) → 32 < m .count → wellFormed m ≡ false
+too-many m h = rw (well-law m, lt-leb (m .count) 32 h, and-false (leb 1 (m .count)))

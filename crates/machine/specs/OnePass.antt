@@ -12,7 +12,7 @@ use Rattle.machine.specs.declared.Answer.{Answer}
 use Rattle.machine.specs.declared.Stepped.{Stepped}
 use Rattle.machine.specs.declared.Seen.{Seen}
 use Rattle.machine.specs.declared.Judged.{Judged}
-use Rattle.machine.specs.Rows.{inMask, age, Found, at, none, firstFrom, isHyper, hasBegun, hasBudget, withStage}
+use Rattle.machine.specs.Rows.{inMask, age, Found, at, none, first, isHyper, hasBegun, hasBudget, withStage}
 use Rattle.machine.specs.WellFormed.{rowFits, fieldsFit, stageFits, isBlank}
 use Rattle.machine.specs.TickRule.{youngerThan, tooSoon, whileHyper, enforced, begun}
 
@@ -62,23 +62,27 @@ willWait clock i r = isHyper (enforced clock (r .k) (r .e) (r .stage))
 abbrev pub willBeReady : ℕ → ℕ → ℕ → ℕ → Row → Bool
 willBeReady clock count mask i r = arrives clock count mask i r || hasBudget (r .c) (enforced clock (r .k) (r .e) (r .stage))
 
--- The pass over the rows, from the last to the first
+-- The pass over the rows, from the first to the last
+
+-- what was found first stays
+abbrev pub firstKept : ℕ → ℕ → ℕ
+firstKept x i = cond (ltb x 32) x i
 
 -- before it, or where it found a place that isn't well formed
 abbrev pub nothingSeen : Bool → Seen
 nothingSeen unfit = record { unfit = unfit; moved = false; begun = 32; waiting = 32; ready = 32; soon = 32; hyper = 32 }
 
--- what the rows l, from place i on, show
-unfoldable pub seenFrom : ℕ → ℕ → ℕ → Bool → ℕ → List Row → Seen
-seenFrom clock count mask moved i l =
+-- what the rows l show
+unfoldable pub seenIn : ℕ → ℕ → ℕ → Bool → List Row → Seen
+seenIn clock count mask moved l =
     record {
       unfit = false;
       moved = moved;
-      begun = place (firstFrom begun i l);
-      waiting = place (firstFrom (willWait clock) i l);
-      ready = place (firstFrom (willBeReady clock count mask) i l);
-      soon = place (firstFrom (tooSoon mask clock) i l);
-      hyper = place (firstFrom (whileHyper mask) i l);
+      begun = place (first begun l);
+      waiting = place (first (willWait clock) l);
+      ready = place (first (willBeReady clock count mask) l);
+      soon = place (first (tooSoon mask clock) l);
+      hyper = place (first (whileHyper mask) l);
     }
 
 -- one row more, at place i, by its stage s
@@ -88,8 +92,37 @@ stageSeen clock i r s w =
       unfit = w .unfit;
       moved = cond (isDue clock (r .e) s) true (w .moved);
       begun = cond (hasBegun (r .k) s) i (w .begun);
-      waiting = cond (isHyper (enforced clock (r .k) (r .e) s)) i (w .waiting);
-      ready = cond (hasBudget (r .c) (enforced clock (r .k) (r .e) s)) i (w .ready);
+      waiting = cond (isHyper (enforced clock (r .k) (r .e) s)) (firstKept (w .waiting) i) (w .waiting);
+      ready = cond (hasBudget (r .c) (enforced clock (r .k) (r .e) s)) (firstKept (w .ready) i) (w .ready);
+      soon = w .soon;
+      hyper = w .hyper;
+    }
+
+-- of a task in the mask: it comes too soon, or while it is Hyper, or it arrives
+abbrev pub soonSeen : ℕ → Seen → Seen
+soonSeen i w =
+    record { unfit = w .unfit; moved = w .moved; begun = w .begun; waiting = w .waiting; ready = w .ready; soon = i; hyper = w .hyper }
+
+abbrev pub hyperSeen : ℕ → Seen → Seen
+hyperSeen i w =
+    record {
+      unfit = w .unfit;
+      moved = w .moved;
+      begun = w .begun;
+      waiting = w .waiting;
+      ready = w .ready;
+      soon = w .soon;
+      hyper = firstKept (w .hyper) i;
+    }
+
+abbrev pub readySeen : ℕ → Seen → Seen
+readySeen i w =
+    record {
+      unfit = w .unfit;
+      moved = true;
+      begun = w .begun;
+      waiting = w .waiting;
+      ready = firstKept (w .ready) i;
       soon = w .soon;
       hyper = w .hyper;
     }
@@ -102,18 +135,9 @@ abbrev pub stageOrUnfit : ℕ → ℕ → Row → Stage → Seen → Seen
 stageOrUnfit clock i r s w =
     cond (stageFits clock (r .c) (r .k) (r .e) s && not (secondBegun (r .k) s w)) (stageSeen clock i r s w) (nothingSeen true)
 
--- its task is in the mask
+-- its task is in the mask, and none came too soon before it
 unfoldable pub arrivalSeen : ℕ → ℕ → ℕ → Stage → Seen → Seen
-arrivalSeen clock i t s w =
-    record {
-      unfit = w .unfit;
-      moved = w .moved || not (mayNotArrive clock t s);
-      begun = w .begun;
-      waiting = w .waiting;
-      ready = cond (mayNotArrive clock t s) (w .ready) i;
-      soon = cond (youngerThan clock t s) i (w .soon);
-      hyper = cond (isHyper s) i (w .hyper);
-    }
+arrivalSeen clock i t s w = cond (ltb (w .soon) 32) w (cond (youngerThan clock t s) (soonSeen i w) (cond (isHyper s) (hyperSeen i w) (readySeen i w)))
 
 abbrev pub arrivalOn : ℕ → ℕ → ℕ → Row → Seen → Seen
 arrivalOn clock mask i r w = cond (inMask mask i) (arrivalSeen clock i (r .t) (r .stage) w) w
@@ -141,7 +165,7 @@ orRefused refusal x j = cond (ltb x 32) (Judged.Refused (refusal (x + 1))) j
 
 unfoldable pub judgedBy : ℕ → ℕ → ℕ → Seen → Judged
 judgedBy clock count mask w =
-    cond (ltb count 1 || (ltb 32 count || ltb (2 ^ 40) clock)) (Judged.Refused (Refusal.NotWellFormed 0))
+    cond (ltb count 1 || ltb (2 ^ 40) clock) (Judged.Refused (Refusal.NotWellFormed 0))
     (cond (eqb clock (2 ^ 40)) (Judged.Refused (Refusal.ClockAtEnd 0))
     (orRefused Refusal.NoSuchTask (pastFrom mask count (32 - count))
     (orRefused Refusal.ArrivalTooSoon (w .soon)

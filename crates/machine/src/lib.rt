@@ -5,7 +5,7 @@ ghost use Prim.Native.Nat.{_+_, _-_, _<_, _≤_};
 ghost use Rattle.machine.specs.Rows.{age, inMask, withStage, isNever, isHyper, hasBudget};
 ghost use Rattle.machine.specs.WellFormed.{inLimits, fieldsFit, isBlank};
 ghost use Rattle.machine.specs.TickRule.{youngerThan, hypertaskRan, guestRan, nobodyRan, ranFrom, enforced, stepOf};
-ghost use Rattle.machine.specs.OnePass.{nothingSeen, stageOrUnfit, arrivalSeen, rowSeen, pastFrom, chosenBy, judgedBy, turnedRow};
+ghost use Rattle.machine.specs.OnePass.{firstKept, nothingSeen, stageOrUnfit, arrivalSeen, rowSeen, pastFrom, chosenBy, judgedBy, turnedRow};
 ghost use Rattle.machine.specs.OnePass.{refusedAs};
 use refusals::Refusal;
 
@@ -162,6 +162,13 @@ fn nothing(unfit: bool) -> Seen
     }
 }
 
+// What was found first stays.
+fn kept(x: usize, i: usize) -> usize
+    ensures { λ r. ⌜ r ≡ firstKept x i ⌝ }
+{
+    if x < 32 { x } else { i }
+}
+
 // A Guest at place i: its clauses of "well formed", then what step 1 makes of it.
 fn see_guest(mut w: Seen, clock: u64, i: usize, r: Row, a: u64, u: u64) -> Seen
     ensures { λ q. ⌜ q ≡ stageOrUnfit clock i r (Stage.Guest a u) w ⌝ }
@@ -180,11 +187,11 @@ fn see_guest(mut w: Seen, clock: u64, i: usize, r: Row, a: u64, u: u64) -> Seen
     }
     if old == e as u64 {
         w.moved = true;
-        w.waiting = i;
+        w.waiting = kept(w.waiting, i);
         return w;
     }
     if u < c as u64 {
-        w.ready = i;
+        w.ready = kept(w.ready, i);
     }
     w
 }
@@ -207,7 +214,7 @@ fn see_hyper(mut w: Seen, clock: u64, i: usize, r: Row, a: u64, l: u64) -> Seen
     if age_of(clock, a) <= e as u64 {
         return nothing(true);
     }
-    w.waiting = i;
+    w.waiting = kept(w.waiting, i);
     if l < k as u64 {
         if w.begun < 32 {
             return nothing(true);
@@ -250,23 +257,24 @@ fn is_hyper(s: Stage) -> bool
     }
 }
 
-fn pick(b: bool, x: usize, y: usize) -> usize
-    ensures { λ r. ⌜ r ≡ cond b x y ⌝ }
-{
-    if b { x } else { y }
-}
-
-// A task in the mask: one that comes neither too soon nor while it is Hyper arrives, and is ready.
+// A task in the mask. Once one came too soon the tick is refused, and of the others nothing is asked any more. One that comes
+// neither too soon nor while it is Hyper arrives, and is ready.
 fn see_arrival(mut w: Seen, clock: u64, i: usize, t: u32, s: Stage) -> Seen
     ensures { λ q. ⌜ q ≡ arrivalSeen clock i t s w ⌝ }
 {
-    let young = is_younger(clock, t, s);
-    let hyper = is_hyper(s);
-    let refused = young | hyper;
-    w.moved = w.moved | !refused;
-    w.ready = pick(refused, w.ready, i);
-    w.soon = pick(young, i, w.soon);
-    w.hyper = pick(hyper, i, w.hyper);
+    if w.soon < 32 {
+        return w;
+    }
+    if is_younger(clock, t, s) {
+        w.soon = i;
+        return w;
+    }
+    if is_hyper(s) {
+        w.hyper = kept(w.hyper, i);
+        return w;
+    }
+    w.moved = true;
+    w.ready = kept(w.ready, i);
     w
 }
 
@@ -320,9 +328,10 @@ fn choose(w: Seen) -> usize
 
 // Refusals 8 to 12, in their order, where every place is well formed by itself.
 fn judge(clock: u64, count: usize, mask: u32, w: Seen) -> Judged
+    requires { ⌜ count ≤ 32 ⌝ }
     ensures { λ r. ⌜ r ≡ judgedBy clock count mask w ⌝ }
 {
-    if (count < 1) | ((32 < count) | (1_099_511_627_776 < clock)) {
+    if (count < 1) | (1_099_511_627_776 < clock) {
         return Judged::Refused(Refusal::NotWellFormed(0));
     }
     if clock == 1_099_511_627_776 {
@@ -490,25 +499,20 @@ fn refuse(m: Machine, refusal: Refusal) -> Stepped
 
 impl Machine {
     // One tick: the next machine and the answer; a refused tick returns the machine it was given. The pass stands here, and
-    // each end returns by itself, since an array by value is copied at each call and each join. Its loops end at count, which
-    // is not a constant: a loop to 32 is unrolled, and the array taken apart.
+    // each end returns by itself, since an array by value is copied at each call and each join. Its loops begin or end at
+    // count, which is not a constant: a loop over all 32 is unrolled, and the array taken apart.
     pub fn step(self, mask: u32, signal: u8, early: bool) -> Stepped
         ensures { λ r. ⌜ r ≡ stepOf self mask signal early ⌝ }
     {
         let clock = self.clock;
         let count = self.count;
         let mut next = self.rows;
-        let mut i: usize = 32;
-        while count < i {
-            i -= 1;
-            let r = next[i];
-            if !is_blank(r) {
-                return refuse(self, Refusal::NotWellFormed(0));
-            }
+        if 32 < count {
+            return refuse(self, Refusal::NotWellFormed(0));
         }
         let mut w = nothing(false);
-        while 0 < i {
-            i -= 1;
+        let mut i: usize = 0;
+        while i < count {
             let r = next[i];
             w = see_row(w, clock, mask, i, r);
             if w.unfit {
@@ -517,6 +521,14 @@ impl Machine {
             if w.moved {
                 next[i] = turn(clock, mask, i, r);
             }
+            i += 1;
+        }
+        while i < 32 {
+            let r = next[i];
+            if !is_blank(r) {
+                return refuse(self, Refusal::NotWellFormed(0));
+            }
+            i += 1;
         }
         match judge(clock, count, mask, w) {
             Judged::Refused(refusal) => {

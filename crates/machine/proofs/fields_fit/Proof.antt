@@ -21,7 +21,8 @@ returns-2 c =
 returns-3 : tie.Need-returns-3
 returns-3 c =
     let p = c .before .before in
-    rw (← fields-law (p .before .before .before .before .args .r), le-leb _ _ (p .before .before .if1 .left), le-leb _ _ (p .if2 .left), le-ltb _ _ (c .if3 .taken))
+    let r = p .before .before .before .before .args .r in
+    rw (← fields-law r, le-leb _ _ (p .before .before .if1 .left), le-leb _ _ (p .if2 .left), le-ltb _ _ (c .if3 .taken))
 
 -- src/lib.rt:130:19
 within-requires : tie.Need-within-requires

@@ -1,8 +1,4 @@
-use mathlib.Core.Bool.{_||_}
-use Prim.Native.Nat.{_^_}
-use lib.Dec.{ltb}
-use Rattle.machine.proofs.Tests.{or-false-left, or-false-right}
-use borrow.Author.Tests.{eq-eqb, ne-eqb, lt-ltb, le-ltb, ltb-false}
+use borrow.Author.Tests.{eq-eqb, ne-eqb, lt-ltb, le-ltb}
 use Rattle.machine.specs.OnePass.{judgedBy}
 use borrow.Author.Needs.{needs}
 use Rattle.machine.proofs.judge.Statement.{statement}
@@ -12,40 +8,36 @@ use Rattle.machine.proofs.judge.Lts as lts
 use Rattle.machine.proofs.choose.Reads as choose-reads
 use Rattle.machine.proofs.lowest_past.Reads as lowest-past-reads
 
--- src/lib.rt:326:9
+-- src/lib.rt:334:9
 returns : tie.Need-returns
 unfolding judgedBy
 returns c = rw (c .if1 .taken)
 
--- src/lib.rt:329:9
+-- src/lib.rt:337:9
 returns-2 : tie.Need-returns-2
 unfolding judgedBy
 returns-2 c = rw (c .before .if1 .left, eq-eqb _ _ (c .if2 .taken))
 
--- src/lib.rt:331:9
+-- src/lib.rt:339:9
 lowest-past-requires : tie.Need-lowest-past-requires
-lowest-past-requires c κs =
-    let a = c .before .before .args in
-    let most = ltb 32 (a .count) in
-    let late = ltb (2 ^ 40) (a .clock) in
-    ltb-false 32 (a .count) (or-false-left most late (or-false-right (ltb (a .count) 1) (most || late) (c .before .if1 .left)))
+lowest-past-requires c κs = search needs
 
--- src/lib.rt:333:52
-add-t13 : tie.Need-add-t13
-add-t13 c = search needs
+-- src/lib.rt:341:52
+add-t11 : tie.Need-add-t11
+add-t11 c = search needs
 
--- src/lib.rt:333:9
+-- src/lib.rt:341:9
 returns-3 : tie.Need-returns-3
 unfolding judgedBy
 returns-3 c =
     let p = c .before .before in
     rw (p .before .if1 .left, ne-eqb _ _ (p .if2 .left), ← c .before .lowest-past .ensures, lt-ltb _ _ (c .if3 .taken))
 
--- src/lib.rt:336:56
-add-t15 : tie.Need-add-t15
-add-t15 c = search needs
+-- src/lib.rt:344:56
+add-t13 : tie.Need-add-t13
+add-t13 c = search needs
 
--- src/lib.rt:336:9
+-- src/lib.rt:344:9
 returns-4 : tie.Need-returns-4
 unfolding judgedBy
 returns-4 c =
@@ -59,11 +51,11 @@ returns-4 c =
       lt-ltb _ _ (c .before .if4 .taken),
     )
 
--- src/lib.rt:339:59
-add-t17 : tie.Need-add-t17
-add-t17 c = search needs
+-- src/lib.rt:347:59
+add-t15 : tie.Need-add-t15
+add-t15 c = search needs
 
--- src/lib.rt:339:9
+-- src/lib.rt:347:9
 returns-5 : tie.Need-returns-5
 unfolding judgedBy
 returns-5 c =
@@ -78,11 +70,11 @@ returns-5 c =
       lt-ltb _ _ (c .before .if5 .taken),
     )
 
--- src/lib.rt:341:22
+-- src/lib.rt:349:22
 choose-requires : tie.Need-choose-requires
 choose-requires c κs = search needs
 
--- src/lib.rt:322:1
+-- src/lib.rt:329:1
 returns-6 : tie.Need-returns-6
 unfolding judgedBy
 returns-6 c =
@@ -105,11 +97,11 @@ judge-spec =
     returns
     returns-2
     lowest-past-requires
-    add-t13
+    add-t11
     returns-3
-    add-t15
+    add-t13
     returns-4
-    add-t17
+    add-t15
     returns-5
     choose-requires
     returns-6)

@@ -1,4 +1,6 @@
 use Rattle.machine.specs.OnePass.{arrivalSeen}
+use borrow.Author.Tests.{lt-ltb, le-ltb}
+use mathlib.Core.Path.{_∙_, sym}
 use borrow.Author.Needs.{needs}
 use Rattle.machine.proofs.see_arrival.Statement.{statement}
 use Rattle.machine.proofs.see_arrival.Tie as tie
@@ -6,42 +8,67 @@ use Rattle.machine.proofs.see_arrival.Reads as reads
 use Rattle.machine.proofs.see_arrival.Lts as lts
 use Rattle.machine.proofs.is_hyper.Reads as is-hyper-reads
 use Rattle.machine.proofs.is_younger.Reads as is-younger-reads
-use Rattle.machine.proofs.pick.Reads as pick-reads
+use Rattle.machine.proofs.kept.Reads as kept-reads
 
--- src/lib.rt:263:9
+-- src/lib.rt:266:9
+returns : tie.Need-returns
+unfolding arrivalSeen
+returns c = rw (lt-ltb _ _ (c .if1 .taken))
+
+-- src/lib.rt:268:8
 is-younger-requires : tie.Need-is-younger-requires
 is-younger-requires c κs = search needs
 
--- src/lib.rt:264:9
+-- src/lib.rt:270:9
+returns-2 : tie.Need-returns-2
+unfolding arrivalSeen
+returns-2 c = rw (le-ltb _ _ (c .before .before .if1 .left), sym (c .before .is-younger .ensures) ∙ c .if2 .taken)
+
+-- src/lib.rt:272:8
 is-hyper-requires : tie.Need-is-hyper-requires
 is-hyper-requires c κs = search needs
 
--- src/lib.rt:267:5
-pick-requires : tie.Need-pick-requires
-pick-requires c κs = search needs
+-- src/lib.rt:273:9
+kept-requires : tie.Need-kept-requires
+kept-requires c κs = search needs
 
--- src/lib.rt:268:5
-pick-requires-2 : tie.Need-pick-requires-2
-pick-requires-2 c κs = search needs
-
--- src/lib.rt:269:5
-pick-requires-3 : tie.Need-pick-requires-3
-pick-requires-3 c κs = search needs
-
--- src/lib.rt:260:1
-returns : tie.Need-returns
+-- src/lib.rt:274:9
+returns-3 : tie.Need-returns-3
 unfolding arrivalSeen
-returns c =
-    let p = c .before .before in
-    rw (c .pick3 .ensures, c .before .pick2 .ensures, p .pick .ensures, p .before .before .is-hyper .ensures, p .before .before .before .is-younger .ensures)
+returns-3 c =
+    let p = c .before .before .before in
+    rw (
+      le-ltb _ _ (p .before .before .if1 .left),
+      sym (p .before .is-younger .ensures) ∙ p .if2 .left,
+      sym (c .before .before .is-hyper .ensures) ∙ c .before .if3 .taken,
+      c .kept .ensures,
+    )
+
+-- src/lib.rt:277:5
+kept-requires-2 : tie.Need-kept-requires-2
+kept-requires-2 c κs = search needs
+
+-- src/lib.rt:262:1
+returns-4 : tie.Need-returns-4
+unfolding arrivalSeen
+returns-4 c =
+    let p = c .before .before .before in
+    rw (
+      le-ltb _ _ (p .before .before .if1 .left),
+      sym (p .before .is-younger .ensures) ∙ p .if2 .left,
+      sym (c .before .before .is-hyper .ensures) ∙ c .before .if3 .left,
+      c .kept2 .ensures,
+    )
 
 pub see-arrival-spec : {M : Type 1} → statement M
 see-arrival-spec =
     tie.close
     (tie.spec
+    returns
     is-younger-requires
+    returns-2
     is-hyper-requires
-    pick-requires
-    pick-requires-2
-    pick-requires-3
-    returns)
+    kept-requires
+    returns-3
+    kept-requires-2
+    returns-4)

@@ -53,7 +53,8 @@ returns-3 : tie.Need-returns-3
 unfolding rowSeen
 returns-3 c =
     let p = c .before .before in
-    rw (sym (p .before .before .fields-fit .ensures) ∙ not-false _ (p .before .if1 .left), sym (c .before .named .ensures) ∙ c .if2 .left) (p .see-stage .ensures)
+    let fits = sym (p .before .before .fields-fit .ensures) ∙ not-false _ (p .before .if1 .left) in
+    rw (fits, sym (c .before .named .ensures) ∙ c .if2 .left) (p .see-stage .ensures)
 
 pub see-row-spec : {M : Type 1} → statement M
 see-row-spec =
