@@ -10,3 +10,6 @@ pub mod text;
 
 #[path = "../../tests/second/src/dice.rs"]
 pub mod dice;
+
+#[path = "../../include/tollsalmon.rs"]
+pub mod interface;

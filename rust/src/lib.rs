@@ -1,6 +1,14 @@
 //! Tollsalmon for Rust: check a table, check a plan, run a plan to its text or to answers. Every
 //! function here hands lengths that are right by construction to the library (rt staticlib export).
 
+#[path = "../../include/tollsalmon.rs"]
+mod interface;
+
+use interface::{
+    tollsalmon_analyse, tollsalmon_check, tollsalmon_report, tollsalmon_script, tollsalmon_start,
+    tollsalmon_table, tollsalmon_ticks,
+};
+
 /// A refusal: its number and its place, as the table of refusals has them.
 #[derive(Clone, Copy, Debug, PartialEq, Eq)]
 pub struct Refusal {
@@ -22,36 +30,6 @@ pub type Answer = [u8; 12];
 const MOST_TASKS: usize = 32;
 const STATE: usize = 258;
 const RECORD: usize = 8;
-
-#[link(name = "export", kind = "static")]
-extern "C" {
-    fn tollsalmon_analyse(
-        table: *const u32,
-        table_len: usize,
-        results: *mut u32,
-        results_len: usize,
-        place: *mut u64,
-    ) -> u32;
-    fn tollsalmon_start(
-        table: *const u32,
-        table_len: usize,
-        state: *mut u64,
-        state_len: usize,
-        place: *mut u64,
-    ) -> u32;
-    fn tollsalmon_ticks(
-        state: *mut u64,
-        state_len: usize,
-        records: *const u8,
-        records_len: usize,
-        answers: *mut u8,
-        answers_len: usize,
-    ) -> u64;
-    fn tollsalmon_check(file: *const u8, file_len: usize, place: *mut u64) -> u32;
-    fn tollsalmon_table(file: *const u8, file_len: usize, table: *mut u32, table_len: usize) -> u64;
-    fn tollsalmon_script(file: *const u8, file_len: usize, script: *mut u8, script_len: usize) -> u64;
-    fn tollsalmon_report(file: *const u8, file_len: usize, text: *mut u8, text_len: usize) -> u64;
-}
 
 fn answered(number: u32, place: u64) -> Result<u64, Refusal> {
     match number {

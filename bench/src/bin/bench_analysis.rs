@@ -2,6 +2,7 @@
 
 use bench::analysis::{self, Answer, Refusal};
 use bench::dice::Dice;
+use bench::interface::tollsalmon_analyse;
 use bench::planner_tables::planner_tables;
 use bench::rounds::{alternate, Times};
 use std::hint::black_box;
@@ -11,17 +12,6 @@ const SEED: u64 = 1;
 const TABLES: usize = 1_000;
 const ROUNDS: usize = 41;
 const RESULTS: usize = 96;
-
-#[link(name = "export", kind = "static")]
-extern "C" {
-    fn tollsalmon_analyse(
-        table: *const u32,
-        table_len: usize,
-        results: *mut u32,
-        results_len: usize,
-        place: *mut u64,
-    ) -> u32;
-}
 
 fn library(table: &[u32], results: &mut [u32]) -> Answer {
     let mut place = 0;

@@ -2,6 +2,7 @@
 //! the same machines and ticks. Whether the step is inlined into the loop matters, so it is measured
 //! twice: with neither step inlined, as the library is used, and with both.
 
+use bench::interface::tollsalmon_ticks;
 use bench::machine::{Machine, Row, Stage};
 use bench::machine_numbers::*;
 use bench::rounds::{alternate, Times};
@@ -11,18 +12,6 @@ use std::time::Duration;
 const TICKS: usize = 4_096;
 const ROUNDS: usize = 61;
 const SIZES: [usize; 4] = [1, 4, 16, 32];
-
-#[link(name = "export", kind = "static")]
-extern "C" {
-    fn tollsalmon_ticks(
-        state: *mut u64,
-        state_len: usize,
-        records: *const u8,
-        records_len: usize,
-        answers: *mut u8,
-        answers_len: usize,
-    ) -> u64;
-}
 
 #[link(name = "pace", kind = "static")]
 extern "C" {

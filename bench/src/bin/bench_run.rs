@@ -1,6 +1,7 @@
 //! Time of a whole run, from a plan's bytes to its text: the library beside plain Rust, on a plan of
 //! 32 rows and 8,000 records.
 
+use bench::interface::tollsalmon_report;
 use bench::rounds::{alternate, Times};
 use bench::text::text;
 use std::hint::black_box;
@@ -10,11 +11,6 @@ const RECORDS: u32 = 8_000;
 const ROUNDS: usize = 61;
 /// From so many lent bytes on the library makes one pass.
 const ROOM: usize = 655_360;
-
-#[link(name = "export", kind = "static")]
-extern "C" {
-    fn tollsalmon_report(file: *const u8, file_len: usize, text: *mut u8, text_len: usize) -> u64;
-}
 
 fn library_text(file: &[u8], room: &mut [u8]) -> usize {
     // SAFETY: both pointers are good for the lengths given with them.

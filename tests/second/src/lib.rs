@@ -17,6 +17,7 @@ pub mod machines;
 pub mod plan;
 pub mod plan_files;
 pub mod scripts;
+pub mod self_test;
 pub mod tables;
 pub mod text;
 pub mod text_plans;

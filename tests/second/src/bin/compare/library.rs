@@ -1,18 +1,11 @@
 //! The library through its C interface.
 
-use crate::lent::Lent;
-use second::answer::{Answer, Refusal};
+#[path = "../../../../../include/tollsalmon.rs"]
+mod interface;
 
-#[link(name = "export", kind = "static")]
-extern "C" {
-    fn tollsalmon_analyse(
-        table: *const u32,
-        table_len: usize,
-        results: *mut u32,
-        results_len: usize,
-        place: *mut u64,
-    ) -> u32;
-}
+use crate::lent::Lent;
+use interface::tollsalmon_analyse;
+use second::answer::{Answer, Refusal};
 
 pub fn analyse(table: &[u32], lent: &mut Lent) -> Answer {
     let (results, length) = lent.pointer_and_length();

@@ -13,6 +13,7 @@ use second::analysis;
 use second::answer::Answer;
 use second::broken::{self, Analyse};
 use second::command::compare_main;
+use second::self_test::SelfTest;
 use second::tables::{hand_on, Case};
 use std::process::ExitCode;
 use tally::Tally;
@@ -77,32 +78,13 @@ fn show(case: &Case, expected: &Outcome, found: &Outcome) {
 
 /// The same comparison with each broken program in the library's place, until all are noticed.
 fn notice_the_broken(seed: u64) -> bool {
-    let mut unnoticed = broken::ANALYSIS.to_vec();
-    let mut tables = 0;
-    let mut sound_is_same = true;
+    let mut test = SelfTest::new(broken::ANALYSIS.to_vec());
     hand_on(seed, &mut |case| {
-        tables += 1;
         let expected = outcome_of(case, analysis::analyse);
-        sound_is_same &= expected == outcome_of(case, analysis::analyse);
-        unnoticed.retain(|(name, program)| {
-            let same = expected == outcome_of(case, *program);
-            if !same {
-                println!("noticed at table {tables:>6} ({:?}): {name}", case.kind);
-            }
-            same
-        });
-        !unnoticed.is_empty()
+        let sound_passes = expected == outcome_of(case, analysis::analyse);
+        test.look(sound_passes, |program| {
+            (expected != outcome_of(case, *program)).then(|| format!("{:?}", case.kind))
+        })
     });
-    for (name, _) in &unnoticed {
-        println!("FAILED: not noticed: {name}");
-    }
-    if !sound_is_same {
-        println!("FAILED: the program without a fault is taken for a different one");
-    }
-    println!(
-        "{} of {} broken programs noticed",
-        broken::ANALYSIS.len() - unnoticed.len(),
-        broken::ANALYSIS.len()
-    );
-    unnoticed.is_empty() && sound_is_same
+    test.passed("programs")
 }

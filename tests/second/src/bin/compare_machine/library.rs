@@ -1,28 +1,12 @@
 //! The library through its C interface.
 
+#[path = "../../../../../include/tollsalmon.rs"]
+mod interface;
+
 use crate::lent::Lent;
 use crate::outcome::Runs;
+use interface::{tollsalmon_start, tollsalmon_ticks};
 use second::answer::{Answer, Refusal};
-
-#[link(name = "export", kind = "static")]
-extern "C" {
-    fn tollsalmon_start(
-        table: *const u32,
-        table_len: usize,
-        state: *mut u64,
-        state_len: usize,
-        place: *mut u64,
-    ) -> u32;
-
-    fn tollsalmon_ticks(
-        state: *mut u64,
-        state_len: usize,
-        records: *const u8,
-        records_len: usize,
-        answers: *mut u8,
-        answers_len: usize,
-    ) -> u64;
-}
 
 pub struct Library;
 

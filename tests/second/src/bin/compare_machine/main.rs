@@ -18,6 +18,7 @@ use second::machine::RULES;
 use second::machine_damages::DAMAGES;
 use second::machine_numbers::ticks;
 use second::machines::{hand_on, Begin, Case};
+use second::self_test::SelfTest;
 use std::process::ExitCode;
 use tally::Tally;
 
@@ -116,29 +117,13 @@ fn show_differences<T: Copy + PartialEq + std::fmt::Display>(
 
 /// The same comparison with each broken machine in the library's place, until all are noticed.
 fn notice_the_broken(seed: u64) -> bool {
-    let all = broken_machine::MACHINE;
-    let mut unnoticed = all.to_vec();
-    let mut machines = 0;
-    let mut sound_is_same = true;
+    let mut test = SelfTest::new(broken_machine::MACHINE.to_vec());
     hand_on(seed, &mut |case| {
-        machines += 1;
         let expected = outcome(case, &SECOND);
-        sound_is_same &= expected == outcome(case, &SECOND);
-        unnoticed.retain(|(name, program)| {
-            let same = expected == outcome(case, program);
-            if !same {
-                println!("noticed at machine {machines:>6} ({:?}): {name}", case.kind);
-            }
-            same
-        });
-        !unnoticed.is_empty()
+        let sound_passes = expected == outcome(case, &SECOND);
+        test.look(sound_passes, |program| {
+            (expected != outcome(case, program)).then(|| format!("{:?}", case.kind))
+        })
     });
-    for (name, _) in &unnoticed {
-        println!("FAILED: not noticed: {name}");
-    }
-    if !sound_is_same {
-        println!("FAILED: the machine without a fault is taken for a different one");
-    }
-    println!("{} of {} broken machines noticed", all.len() - unnoticed.len(), all.len());
-    unnoticed.is_empty() && sound_is_same
+    test.passed("machines")
 }

@@ -1,24 +1,12 @@
 //! The library through its C interface.
 
+#[path = "../../../../../include/tollsalmon.rs"]
+mod interface;
+
 use crate::lent::Lent;
 use crate::program::Program;
+use interface::{tollsalmon_check, tollsalmon_script, tollsalmon_table, tollsalmon_write};
 use second::answer::{Answer, Refusal};
-
-#[link(name = "export", kind = "static")]
-extern "C" {
-    fn tollsalmon_check(file: *const u8, file_len: usize, place: *mut u64) -> u32;
-    fn tollsalmon_table(file: *const u8, file_len: usize, table: *mut u32, table_len: usize) -> u64;
-    fn tollsalmon_script(file: *const u8, file_len: usize, script: *mut u8, script_len: usize) -> u64;
-    fn tollsalmon_write(
-        table: *const u32,
-        table_len: usize,
-        script: *const u8,
-        script_len: usize,
-        output: *mut u8,
-        output_len: usize,
-        place: *mut u64,
-    ) -> u32;
-}
 
 pub struct Library;
 

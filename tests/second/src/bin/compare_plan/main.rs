@@ -17,6 +17,7 @@ use program::Program;
 use second::broken_plan;
 use second::command::compare_main;
 use second::plan_files::{hand_on, Case};
+use second::self_test::SelfTest;
 use std::process::ExitCode;
 use stray::STRAY;
 use tally::Tally;
@@ -72,28 +73,12 @@ fn broken_programs() -> Vec<(&'static str, &'static dyn Program)> {
 
 /// The same comparison with each broken program in the library's place, until all are noticed.
 fn notice_the_broken(seed: u64) -> bool {
-    let mut unnoticed = broken_programs();
-    let all = unnoticed.len();
-    let mut cases = 0;
-    let mut sound_is_same = true;
+    let mut test = SelfTest::new(broken_programs());
     hand_on(seed, &mut |case| {
-        cases += 1;
-        sound_is_same &= compare(&SECOND, case).is_ok();
-        unnoticed.retain(|(name, program)| match compare(*program, case) {
-            Ok(_) => true,
-            Err(difference) => {
-                println!("noticed at case {cases:>6}: {name} ({difference})");
-                false
-            }
-        });
-        !unnoticed.is_empty()
+        let sound_passes = compare(&SECOND, case).is_ok();
+        test.look(sound_passes, |program| {
+            compare(*program, case).err().map(|difference| difference.to_string())
+        })
     });
-    for (name, _) in &unnoticed {
-        println!("FAILED: not noticed: {name}");
-    }
-    if !sound_is_same {
-        println!("FAILED: the program without a fault is taken for a different one");
-    }
-    println!("{} of {all} broken programs noticed", all - unnoticed.len());
-    unnoticed.is_empty() && sound_is_same
+    test.passed("programs")
 }

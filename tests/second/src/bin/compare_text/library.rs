@@ -1,12 +1,11 @@
 //! The library through its C interface.
 
+#[path = "../../../../../include/tollsalmon.rs"]
+mod interface;
+
 use crate::lent::Lent;
 use crate::program::Program;
-
-#[link(name = "export", kind = "static")]
-extern "C" {
-    fn tollsalmon_report(file: *const u8, file_len: usize, text: *mut u8, text_len: usize) -> u64;
-}
+use interface::tollsalmon_report;
 
 pub struct Library;
 

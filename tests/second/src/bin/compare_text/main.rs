@@ -18,6 +18,7 @@ use library::Library;
 use program::Program;
 use second::broken_text::{self, Text};
 use second::command::compare_main;
+use second::self_test::SelfTest;
 use second::text::text;
 use second::text_plans::{hand_on, Case};
 use show::show;
@@ -61,29 +62,14 @@ fn broken_programs() -> Vec<(&'static str, &'static dyn Program)> {
 
 /// The same comparison with each broken program in the library's place, until all are noticed.
 fn notice_the_broken(seed: u64) -> bool {
-    let mut unnoticed = broken_programs();
-    let all = unnoticed.len();
-    let mut plans = 0;
-    let mut sound_is_same = true;
+    let mut test = SelfTest::new(broken_programs());
     hand_on(seed, &mut |case| {
-        plans += 1;
         let expected = text(&case.file);
-        sound_is_same &= compare(&SECOND, &case.file, &expected).is_ok();
-        unnoticed.retain(|(name, program)| {
+        let sound_passes = compare(&SECOND, &case.file, &expected).is_ok();
+        test.look(sound_passes, |program| {
             let same = compare(*program, &case.file, &expected).is_ok();
-            if !same {
-                println!("noticed at plan {plans:>6} ({:?}): {name}", case.kind);
-            }
-            same
-        });
-        !unnoticed.is_empty()
+            (!same).then(|| format!("{:?}", case.kind))
+        })
     });
-    for (name, _) in &unnoticed {
-        println!("FAILED: not noticed: {name}");
-    }
-    if !sound_is_same {
-        println!("FAILED: the program without a fault is taken for a different one");
-    }
-    println!("{} of {all} broken texts noticed", all - unnoticed.len());
-    unnoticed.is_empty() && sound_is_same
+    test.passed("texts")
 }
