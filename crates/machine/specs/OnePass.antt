@@ -9,12 +9,13 @@ use Rattle.machine.specs.declared.Stage.{Stage}
 use Rattle.machine.specs.declared.Row.{Row}
 use Rattle.machine.specs.declared.Machine.{Machine}
 use Rattle.machine.specs.declared.Answer.{Answer}
+use Rattle.machine.specs.declared.Taken.{Taken}
 use Rattle.machine.specs.declared.Stepped.{Stepped}
 use Rattle.machine.specs.declared.Seen.{Seen}
 use Rattle.machine.specs.declared.Judged.{Judged}
 use Rattle.machine.specs.Rows.{inMask, age, Found, at, none, first, isHyper, hasBegun, hasBudget, withStage}
 use Rattle.machine.specs.WellFormed.{rowFits, fieldsFit, stageFits, isBlank}
-use Rattle.machine.specs.TickRule.{youngerThan, tooSoon, whileHyper, enforced, begun}
+use Rattle.machine.specs.TickRule.{youngerThan, tooSoon, whileHyper, enforced, begun, nextClock}
 
 -- what was found as a number: the place, or 32
 abbrev pub place : Found → ℕ
@@ -174,3 +175,8 @@ judgedBy clock count mask w =
 -- the machine as it was given, and why
 abbrev pub refusedAs : Machine → Refusal → Stepped
 refusedAs m refusal = record { machine = m; answer = Answer.Refused refusal }
+
+-- the rows after steps 1 to 4, with the clock one further and what the tick says
+abbrev pub takenWith : List Row → ℕ → ℕ → Taken → Stepped
+takenWith rows count clock says =
+    record { machine = record { rows = rows; count = count; clock = nextClock clock }; answer = Answer.Taken says }

@@ -6,7 +6,7 @@ ghost use Rattle.machine.specs.Rows.{age, inMask, withStage, isNever, is
 ghost use Rattle.machine.specs.WellFormed.{inLimits, fieldsFit, isBlank};
 ghost use Rattle.machine.specs.TickRule.{youngerThan, hypertaskRan, guestRan, nobodyRan, ranFrom, enforced, stepOf};
 ghost use Rattle.machine.specs.OnePass.{firstKept, nothingSeen, stageOrUnfit, arrivalSeen, rowSeen, pastFrom, chosenBy, judgedBy, turnedRow};
-ghost use Rattle.machine.specs.OnePass.{refusedAs};
+ghost use Rattle.machine.specs.OnePass.{refusedAs, takenWith};
 use refusals::Refusal;
 
 // A task's stage, with its own data.
@@ -262,7 +262,8 @@ fn is_hyper(s: Stage) -> bool
 fn see_arrival(mut w: Seen, clock: u64, i: usize, t: u32, s: Stage) -> Seen
     ensures { λ q. ⌜ q ≡ arrivalSeen clock i t s w ⌝ }
 {
-    if w.soon < 32 {
+    let refused = w.soon < 32;
+    if refused {
         return w;
     }
     if is_younger(clock, t, s) {
@@ -497,6 +498,21 @@ fn refuse(m: Machine, refusal: Refusal) -> Stepped
     }
 }
 
+// Step 5, after the others.
+fn advance(rows: [Row; 32], count: usize, clock: u64, taken: Taken) -> Stepped
+    requires { ⌜ clock < 1099511627776 ⌝ }
+    ensures { λ r. ⌜ r ≡ takenWith rows count clock taken ⌝ }
+{
+    Stepped {
+        machine: Machine {
+            rows: rows,
+            count: count,
+            clock: clock + 1,
+        },
+        answer: Answer::Taken(taken),
+    }
+}
+
 impl Machine {
     // One tick: the next machine and the answer; a refused tick returns the machine it was given. The pass stands here, and
     // each end returns by itself, since an array by value is copied at each call and each join. Its loops begin or end at
@@ -504,22 +520,20 @@ impl Machine {
     pub fn step(self, mask: u32, signal: u8, early: bool) -> Stepped
         ensures { λ r. ⌜ r ≡ stepOf self mask signal early ⌝ }
     {
-        let clock = self.clock;
-        let count = self.count;
         let mut next = self.rows;
-        if 32 < count {
+        if 32 < self.count {
             return refuse(self, Refusal::NotWellFormed(0));
         }
         let mut w = nothing(false);
         let mut i: usize = 0;
-        while i < count {
+        while i < self.count {
             let r = next[i];
-            w = see_row(w, clock, mask, i, r);
+            w = see_row(w, self.clock, mask, i, r);
             if w.unfit {
                 return refuse(self, Refusal::NotWellFormed(0));
             }
             if w.moved {
-                next[i] = turn(clock, mask, i, r);
+                next[i] = turn(self.clock, mask, i, r);
             }
             i += 1;
         }
@@ -530,10 +544,8 @@ impl Machine {
             }
             i += 1;
         }
-        match judge(clock, count, mask, w) {
-            Judged::Refused(refusal) => {
-                return refuse(self, refusal);
-            }
+        match judge(self.clock, self.count, mask, w) {
+            Judged::Refused(refusal) => return refuse(self, refusal),
             Judged::Accepted(place) => {
                 let mut taken = nobody(signal);
                 if place < 32 {
@@ -543,14 +555,7 @@ impl Machine {
                     next[place] = staged(r, s);
                     taken = o.taken;
                 }
-                return Stepped {
-                    machine: Machine {
-                        rows: next,
-                        count: count,
-                        clock: clock + 1,
-                    },
-                    answer: Answer::Taken(taken),
-                };
+                return advance(next, self.count, self.clock, taken);
             }
         }
     }
