@@ -137,7 +137,9 @@ fn put_total(
     i: usize,
 ) -> usize
     requires { ⌜ Balance (i + 1) (now arrived) (now guests) (now hypertasks) ⌝ }
-    ensures puts { λ r. ⌜ Put (now (text .entry)) at (totalLine (now (arrived .entry)) (now (guests .entry)) (now (hypertasks .entry)) i) (now (text .exit)) r ⌝ }
+    ensures puts { λ r. ⌜
+        Put (now (text .entry)) at (totalLine (now (arrived .entry)) (now (guests .entry)) (now (hypertasks .entry)) i) (now (text .exit)) r
+        ⌝ }
     ensures short { λ r. ⌜ r ≤ at + 110 ⌝ }
 {
     let a = arrived[i];
@@ -156,7 +158,9 @@ pub(crate) fn put_totals(
     n: usize,
 ) -> usize
     requires { ⌜ Balance n (now arrived) (now guests) (now hypertasks) ⌝ }
-    ensures puts { λ r. ⌜ Put (now (text .entry)) at (totalLines (now (arrived .entry)) (now (guests .entry)) (now (hypertasks .entry)) 0 n) (now (text .exit)) r ⌝ }
+    ensures puts { λ r. ⌜
+        Put (now (text .entry)) at (totalLines (now (arrived .entry)) (now (guests .entry)) (now (hypertasks .entry)) 0 n) (now (text .exit)) r
+        ⌝ }
     ensures short { λ r. ⌜ r ≤ at + 110 * n ⌝ }
 {
     let mut to = at;

@@ -71,10 +71,14 @@ enum-told-2 c = search needs
 
 -- src/lib.rt:33:26
 -- and G
-guests-filled : (c : tie.After-enum-told2) → GuestsFilled (now (c .before .before .before .before .before .before .before .before .before .before .before .before .args .table)) (c .before .before .guests .last .1 .1 .0) (rows (now (c .before .before .before .before .before .before .before .before .before .before .before .before .args .table)))
+guests-filled : (c : tie.After-enum-told2)
+    → GuestsFilled (now (c .before .before .before .before .before .before .before .before .before .before .before .before .args .table))
+    (c .before .before .guests .last .1 .1 .0)
+    (rows (now (c .before .before .before .before .before .before .before .before .before .before .before .before .args .table)))
 guests-filled c = c .before .before .guests .ensures .1 (c .enum-told2 .given .1)
 
-guests-pass : (c : tie.After-enum-told2) → guestCheck (now (c .before .before .before .before .before .before .before .before .before .before .before .before .args .table)) ≡ Passed
+guests-pass : (c : tie.After-enum-told2)
+    → guestCheck (now (c .before .before .before .before .before .before .before .before .before .before .before .before .args .table)) ≡ Passed
 guests-pass c = sym (c .before .before .guests .ensures .0) ∙ c .enum-told2 .given .1
 
 slice-aggregate-write : tie.Need-slice-aggregate-write
@@ -110,10 +114,10 @@ same-length c = search needs
 -- src/lib.rt:18:1
 returns-3 : tie.Need-returns-3
 returns-3 c =
-    let a = c .before .before .before .before .before .before .before .before .before .before .before .before .before .before .before .before .before .before .before in
-    let s = now (a .args .table) in
-    let f = c .before .before .before .before .before .before .before .before .before .before .before .before in
-    let g = c .before .before .before .before .before .before .before in (
+    let g = c .before .before .before .before .before .before .before in
+    let f = g .before .before .before .before .before in
+    let a = f .before .before .before .before .before .before .before in
+    let s = now (a .args .table) in (
       sym (accepted s (hypertasks-pass f) (guests-pass g)),
       c .before .before .write .ensures ∙ ap (λ (x : List ℕ). x ++ drop (3 * rows s) (now (a .args .lent))) (results-are s _ _ _ (rows s) (filled f)
           (guests-filled g)),
