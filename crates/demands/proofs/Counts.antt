@@ -108,7 +108,10 @@ module _ (c₀ : ℕ) (r : Row) (l : List TakenTick) (i : ℕ) (z : Stage) (B : 
 
   -- a job that came has no output exactly while the stage of its row is Guest or Hyper with its arrival
   open-exactly : (n : ℕ) → brought l i n ≡ true → (outputs n ≡ 0) ↔ (openArrival z ≡ at (c₀ + n))
-  open-exactly n b = (λ e. held (isAt (c₀ + n) (openArrival z)) refl (omega (arith, B .once n, ap one b)), λ e. omega (arith, B .once n, ap one b, one-of e))
+  open-exactly n b = (
+    λ e. held (isAt (c₀ + n) (openArrival z)) refl (omega (arith, B .once n, ap one b)),
+    λ e. omega (arith, B .once n, ap one b, one-of e),
+  )
     where
       one-of : openArrival z ≡ at (c₀ + n) → one (isAt (c₀ + n) (openArrival z)) ≡ 1
       one-of e = ap (λ f. one (isAt (c₀ + n) f)) e ∙ ap one (eq-eqb (c₀ + n) (c₀ + n) refl)
@@ -128,11 +131,13 @@ module _ (c₀ : ℕ) (r : Row) (l : List TakenTick) (i : ℕ) (z : Stage) (B : 
       held : (a : ℕ) (f : Found) → latest l i (length l) ≡ f → at a ≡ shift c₀ f → sum (λ n. one (eqb a (c₀ + n))) (length l) ≡ 1
       held a (at k) q e =
           let x : a ≡ c₀ + k = cc in
-          sum-same (λ n. one (eqb a (c₀ + n))) (λ n. one (eqb k n)) (length l) (λ n h. ap one (same-eqb a (c₀ + n) k n (λ y. omega arith) (λ y. omega arith)))
+          sum-same (λ n. one (eqb a (c₀ + n))) (λ n. one (eqb k n)) (length l)
+          (λ n h. ap one (same-eqb a (c₀ + n) k n (λ y. omega arith) (λ y. omega arith)))
           ∙ sum-one-at k (length l) (latest-is l i (length l) k q .0)
       held a none q e = absurd (let y : _≡_ {A = ℕ} 0 1 = cc in omega arith)
 
-      go : (w : Stage) → arrivalOf w ≡ shift c₀ (latest l i (length l)) → sum (λ n. one (isAt (c₀ + n) (openArrival w))) (length l) ≡ one (hasOpen w)
+      go : (w : Stage) → arrivalOf w ≡ shift c₀ (latest l i (length l))
+          → sum (λ n. one (isAt (c₀ + n) (openArrival w))) (length l) ≡ one (hasOpen w)
       go Stage.Never e = sum-zero (length l)
       go (Stage.Guest a u) e = held a (latest l i (length l)) refl e
       go (Stage.Hyper a k) e = held a (latest l i (length l)) refl e

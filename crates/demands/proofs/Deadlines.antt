@@ -27,7 +27,8 @@ use Rattle.demands.proofs.Ticks.{rowAt, stageAt, Shaped, RowsFit, Legal
 use Rattle.demands.proofs.Accepted.{level, glevel, fits, offset, deadline, offset-early}
 
 -- a row that is Hyper after steps 1 and 2 was so before, or is at its enforcement instant
-was-hyper : (r : Row) (c : ℕ) (b : Bool) (s : Stage) (a n : ℕ) → Okay r c s → turnedStage r c b s ≡ Stage.Hyper a n → (s ≡ Stage.Hyper a n) ⊎ (a + r .e ≡ c)
+was-hyper : (r : Row) (c : ℕ) (b : Bool) (s : Stage) (a n : ℕ) → Okay r c s → turnedStage r c b s ≡ Stage.Hyper a n
+    → (s ≡ Stage.Hyper a n) ⊎ (a + r .e ≡ c)
 was-hyper r c true s a n o e = absurd (let z : _≡_ {A = ℕ} 0 1 = cc in omega arith)
 was-hyper r c false Stage.Never a n o e = inl e
 was-hyper r c false (Stage.Guest b u) a n o e = go (eqb (age c b) (r .e)) refl e
@@ -143,7 +144,8 @@ module _ (s : List ℕ) (r g : ℕ → ℕ) (sch : Schedulable s r (E s) g) wher
         go z e = rw e at (G.in-time T C K O (rows s) i (Q i h .wa) (Q i h .we) (glevel s r g sch i h) c (view (rowOf s) (rows s) c l) (all .guests i h))
 
     -- After steps 1 and 2 too: what a tick does to a Hyper, it does before the deadline.
-    pub hyper-runs-early : (mask : ℕ) (L : Legal (rowOf s) (rows s) c mask l) (a n : ℕ) → stageAt (turned c mask l) i ≡ Stage.Hyper a n → c < a + rowOf s i .d
+    pub hyper-runs-early : (mask : ℕ) (L : Legal (rowOf s) (rows s) c mask l) (a n : ℕ)
+        → stageAt (turned c mask l) i ≡ Stage.Hyper a n → c < a + rowOf s i .d
     hyper-runs-early mask L a n e =
         elim (was-hyper (rowOf s i) c (inMask mask i) (stageAt l i) a n (all .wf .okay i)
         (sym (turned-stage (rowOf s) (rows s) (fits s r g sch) c mask 0 false l (all .wf) L i h) ∙ e)) [

@@ -123,7 +123,10 @@ shift-cond c₀ true x f = refl
 shift-cond c₀ false x f = refl
 
 pub same-eqb : (a b c d : ℕ) → (a ≡ b → c ≡ d) → (c ≡ d → a ≡ b) → eqb a b ≡ eqb c d
-same-eqb a b c d f g = elim (ℕ-discrete a b) [ yes e ↦ eq-eqb a b e ∙ sym (eq-eqb c d (f e)) | no n ↦ ne-eqb a b n ∙ sym (ne-eqb c d (λ e. n (g e))) ]
+same-eqb a b c d f g = elim (ℕ-discrete a b) [
+  | yes e ↦ eq-eqb a b e ∙ sym (eq-eqb c d (f e))
+  | no n ↦ ne-eqb a b n ∙ sym (ne-eqb c d (λ e. n (g e)))
+]
 
 shift-at : (c₀ n : ℕ) (f : Found) → isAt (c₀ + n) (shift c₀ f) ≡ isAt n f
 shift-at c₀ n (at x) = same-eqb (c₀ + x) (c₀ + n) x n (λ e. omega arith) (λ e. omega arith)
@@ -209,7 +212,8 @@ module _ (c₀ : ℕ) (r : Row) (l : List TakenTick) (e : TakenTick) (i : ℕ) (
     once° : (n : ℕ) → guestOutputs l i n + hypertaskOutputs l i n + one (isAt (c₀ + n) (openArrival s°)) ≡ one (brought more i n)
     once° n = rw (turned-open r c comes s) (go comes refl)
       where
-        go : (b : Bool) → comes ≡ b → guestOutputs l i n + hypertaskOutputs l i n + one (isAt (c₀ + n) (cond b (at c) (openArrival s))) ≡ one (brought more i n)
+        go : (b : Bool) → comes ≡ b
+            → guestOutputs l i n + hypertaskOutputs l i n + one (isAt (c₀ + n) (cond b (at c) (openArrival s))) ≡ one (brought more i n)
         go true q =
             let p : one (isAt (c₀ + n) (openArrival s)) ≡ 0 = ap (λ k. one (isAt (c₀ + n) k)) (free-open r c s f o (fr q)) in
             elim (ℕ-discrete n (length l)) [
@@ -234,7 +238,8 @@ module _ (c₀ : ℕ) (r : Row) (l : List TakenTick) (e : TakenTick) (i : ℕ) (
                   omega (arith, B .once n)
             ]
 
-    once′ : (n : ℕ) → Told i (e .said) s° s′ → guestOutputs more i n + hypertaskOutputs more i n + one (isAt (c₀ + n) (openArrival s′)) ≡ one (brought more i n)
+    once′ : (n : ℕ) → Told i (e .said) s° s′
+        → guestOutputs more i n + hypertaskOutputs more i n + one (isAt (c₀ + n) (openArrival s′)) ≡ one (brought more i n)
     once′ n (silent g h x y) =
         let p : one (guestSaid i (e .said) && isAt n now) ≡ 0 = ap (λ b. one (b && isAt n now)) g in
         let q : one (hypertaskSaid i (e .said) && isAt n now) ≡ 0 = ap (λ b. one (b && isAt n now)) h in

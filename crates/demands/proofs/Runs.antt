@@ -189,7 +189,8 @@ module _ (s : List ℕ) (r g : ℕ → ℕ) (sch : Schedulable s r (E s) g) (c�
     unfolding taken ran-row
     took = go (chosen x) refl (next s r g sch m (t .mask) (t .signal) (t .early) (S .count) (S .all) v)
       where
-        go : (f : Found) → chosen x ≡ f → All s r g sch (suc (m .clock)) (ranOn (m .count) (m .clock) x (t .signal) (t .early) (chosen x) .machine .rows) →
+        go : (f : Found) → chosen x ≡ f
+            → All s r g sch (suc (m .clock)) (ranOn (m .count) (m .clock) x (t .signal) (t .early) (chosen x) .machine .rows) →
             State (record {
               machine = ranOn (m .count) (m .clock) x (t .signal) (t .early) f .machine;
               taken = R .taken ++ takenBy t (ranOn (m .count) (m .clock) x (t .signal) (t .early) f .answer);

@@ -28,11 +28,14 @@ use Rattle.export.specs.Ticks.{whoOf, taskOf, markOf, bitOf, saidOf, ans
 -- ## One answer
 
 -- a piece right after another
-pub two-pieces : (o : List ℕ) {a b : List ℕ} (i j : ℕ) (t u : List ℕ) → a ≡ sets o i t → b ≡ sets a j u → j ≡ i + length t → b ≡ sets o i (t ++ u)
+pub two-pieces : (o : List ℕ) {a b : List ℕ} (i j : ℕ) (t u : List ℕ) → a ≡ sets o i t → b ≡ sets a j u
+    → j ≡ i + length t → b ≡ sets o i (t ++ u)
 two-pieces o i j t u p q e = q ∙ ap (λ (l : List ℕ). sets l j u) p ∙ sets-then o i j t u e
 
-pub said-taken : (o : List ℕ) {a b : List ℕ} (at : ℕ) (t : Taken) (w n m g : ℕ) → w ≡ whoOf (t .ran) → n ≡ taskOf (t .ran) → m ≡ markOf (t .mark)
-    → g ≡ bitOf (t .ignored) → a ≡ sets o at (bytesOf 0) → b ≡ sets a (at + 4) (w ∷ n % 256 ∷ m ∷ g ∷ []) → b ≡ sets o at (saidOf (Answer.Taken t))
+pub said-taken : (o : List ℕ) {a b : List ℕ} (at : ℕ) (t : Taken) (w n m g : ℕ) → w ≡ whoOf (t .ran) → n ≡ taskOf (t .ran)
+    → m ≡ markOf (t .mark)
+    → g ≡ bitOf (t .ignored) → a ≡ sets o at (bytesOf 0) → b ≡ sets a (at + 4) (w ∷ n % 256 ∷ m ∷ g ∷ [])
+    → b ≡ sets o at (saidOf (Answer.Taken t))
 said-taken o at t w n m g hw hn hm hg p q =
     two-pieces o at (at + 4) (bytesOf 0) (w ∷ n % 256 ∷ m ∷ g ∷ []) p q refl
     ∙ rw (hw, hn, hm, hg)
@@ -47,7 +50,8 @@ pub answer-length : (clock : ℕ) (a : Answer) → length (answerBytes clock a) 
 answer-length clock (Answer.Taken t) = refl
 answer-length clock (Answer.Refused r) = refl
 
-pub answer-put : (o : List ℕ) {a b : List ℕ} (at clock : ℕ) (x : Answer) → at + 12 ≤ length o → a ≡ sets o at (bytesOf clock) → b ≡ sets a (at + 4) (saidOf x)
+pub answer-put : (o : List ℕ) {a b : List ℕ} (at clock : ℕ) (x : Answer) → at + 12 ≤ length o → a ≡ sets o at (bytesOf clock)
+    → b ≡ sets a (at + 4) (saidOf x)
     → b ≡ take at o ++ answerBytes clock x ++ drop (at + 12) o
 answer-put o at clock x h p q =
     two-pieces o at (at + 4) (bytesOf clock) (saidOf x) p q refl
@@ -73,10 +77,12 @@ not-missing s i e h = other (tickAt s i) (e ∙ rw (lt-ltb _ _ h))
 -- ## One tick more
 
 module _ (m : Machine) (r : List ℕ) (i : ℕ) (at : Machine) (t : Tick) (s : Stepped) where
-  stepped : at ≡ machineAfter m r i → t ≡ tickAt r i → s ≡ stepOf at (t .mask) (t .signal) (t .early) → s ≡ stepBy (machineAfter m r i) (tickAt r i)
+  stepped : at ≡ machineAfter m r i → t ≡ tickAt r i → s ≡ stepOf at (t .mask) (t .signal) (t .early)
+      → s ≡ stepBy (machineAfter m r i) (tickAt r i)
   stepped p q e = e ∙ rw (p, q)
 
-  pub machine-more : at ≡ machineAfter m r i → t ≡ tickAt r i → s ≡ stepOf at (t .mask) (t .signal) (t .early) → s .machine ≡ machineAfter m r (i + 1)
+  pub machine-more : at ≡ machineAfter m r i → t ≡ tickAt r i → s ≡ stepOf at (t .mask) (t .signal) (t .early)
+      → s .machine ≡ machineAfter m r (i + 1)
   unfolding machineAfter
   machine-more p q e = ap (λ (x : Stepped). x .machine) (stepped p q e) ∙ ap (machineAfter m r) (sym (add-one i))
 

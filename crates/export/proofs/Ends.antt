@@ -27,7 +27,8 @@ says : (t : List ℕ) (n : ℕ) (x : Started) → 258 ≤ n → x ≡ startOf t 
 unfolding startSays startOf
 says t n x h e = ap (λ (y : Started). y .answer) e ∙ rw (le-ltb _ _ h)
 
-pub start-done : (t s after : List ℕ) (x : Started) (r p : ℕ) → 258 ≤ length s → x ≡ startOf t → r ≡ numberIn (x .answer) → p ≡ placeIn (x .answer)
+pub start-done : (t s after : List ℕ) (x : Started) (r p : ℕ) → 258 ≤ length s → x ≡ startOf t → r ≡ numberIn (x .answer)
+    → p ≡ placeIn (x .answer)
     → after ≡ stateOf (x .machine) ++ drop 258 s
     → (r ≡ numberIn (startSays t (length s))) × ((p ≡ placeIn (startSays t (length s))) × (after ≡ stateStarted t s))
 unfolding stateStarted
@@ -56,7 +57,8 @@ pub ticks-none : (s records answers : List ℕ) (a b n : ℕ) → readable s ≡
 unfolding ticksTaken flat
 ticks-none s records answers a b n h e z = (rw h (sym z ∙ e), (refl, refl))
 
-pub ticks-taken : (s records answers after out : List ℕ) (a b n : ℕ) (m last : Machine) → readable s ≡ true → n ≡ min (a / 8) (b / 12) → (n ≡ 0 → ⊥)
+pub ticks-taken : (s records answers after out : List ℕ) (a b n : ℕ) (m last : Machine) → readable s ≡ true
+    → n ≡ min (a / 8) (b / 12) → (n ≡ 0 → ⊥)
     → m ≡ machineIn s → last ≡ machineAfter m records n → after ≡ stateOf last ++ drop 258 s
     → out ≡ flat (answerTo m records) n ++ drop (12 * n) answers
     → (n ≡ ticksTaken s a b) × ((after ≡ stateAfter s records n) × (out ≡ answersAfter s records answers n))

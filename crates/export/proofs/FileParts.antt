@@ -48,7 +48,8 @@ pub part-short : (part q lent : List ℕ) → q ≡ part → length lent < lengt
 unfolding toFront
 part-short part q lent e h = let g : length lent < length part = omega (arith, ap length e) in rw (lt-ltb _ _ g)
 
-pub part-fits : (part q lent after : List ℕ) → q ≡ part → length q ≤ length lent → after ≡ q ++ drop (length q) lent → after ≡ toFront part lent
+pub part-fits : (part q lent after : List ℕ) → q ≡ part → length q ≤ length lent → after ≡ q ++ drop (length q) lent
+    → after ≡ toFront part lent
 unfolding toFront
 part-fits part q lent after e h p =
     let g : length part ≤ length lent = omega (arith, ap length e) in

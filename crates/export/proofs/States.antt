@@ -109,21 +109,24 @@ pub can-read : (l : List ℕ) → readable l ≡ true → Readable l
 unfolding readable
 can-read l e = go (ltb (length l) 258) refl (firstWhere (unreadable l) 0 32) refl e
   where
-    go : (b : Bool) → ltb (length l) 258 ≡ b → (o : Option ℕ) → firstWhere (unreadable l) 0 32 ≡ o → cond b false (isNone o) ≡ true → Readable l
+    go : (b : Bool) → ltb (length l) 258 ≡ b → (o : Option ℕ) → firstWhere (unreadable l) 0 32 ≡ o
+        → cond b false (isNone o) ≡ true → Readable l
     go true p o q e = absurd (true-false (sym e))
     go false p none q e =
         record { long = ltb-false (length l) 258 p; places = λ i h. where-none (unreadable l) 32 0 q i (omega arith) (omega arith) }
     go false p (some k) q e = absurd (true-false (sym e))
 
 -- a row from its eight numbers
-pub row-is : (l : List ℕ) (i a b c d e x y z : ℕ) (s : Stage) → x ≡ numberIn l i 5 → y ≡ numberIn l i 6 → z ≡ numberIn l i 7 → s ≡ stageIn x y z
+pub row-is : (l : List ℕ) (i a b c d e x y z : ℕ) (s : Stage) → x ≡ numberIn l i 5 → y ≡ numberIn l i 6 → z ≡ numberIn l i 7
+    → s ≡ stageIn x y z
     → a ≡ numberIn l i 0 → b ≡ numberIn l i 1 → c ≡ numberIn l i 2 → d ≡ numberIn l i 3 → e ≡ numberIn l i 4
     → record { t = a; d = b; c = c; k = d; e = e; stage = s } ≡ rowIn l i
 unfolding rowIn
 row-is l i a b c d e x y z s hx hy hz hs ha hb hc hd he = rw (hs, hx, hy, hz, ha, hb, hc, hd, he)
 
 -- all places filled
-pub places-all : (l : List ℕ) (rows : List Row) (i : ℕ) → i ≡ 32 → rows ≡ listOf (rowIn l) i ++ replicate (32 - i) noRow → rows ≡ listOf (rowIn l) 32
+pub places-all : (l : List ℕ) (rows : List Row) (i : ℕ) → i ≡ 32 → rows ≡ listOf (rowIn l) i ++ replicate (32 - i) noRow
+    → rows ≡ listOf (rowIn l) 32
 places-all l rows i h e =
     e ∙ ap (λ (x : ℕ). listOf (rowIn l) x ++ replicate (32 - x) noRow) h ∙ append-nil (listOf (rowIn l) 32)
 
@@ -154,7 +157,8 @@ places-most l = go (readable l)
     go true = omega arith
     go false = omega arith
 
-pub read-is : (l : List ℕ) (h : Head) (rows : List Row) (i : ℕ) → h ≡ headOf l → i ≡ h .places → rows ≡ listOf (rowIn l) i ++ replicate (32 - i) noRow
+pub read-is : (l : List ℕ) (h : Head) (rows : List Row) (i : ℕ) → h ≡ headOf l → i ≡ h .places
+    → rows ≡ listOf (rowIn l) i ++ replicate (32 - i) noRow
     → record { ok = h .ok; machine = record { rows = rows; count = h .count; clock = h .clock } } ≡ readOf l
 unfolding headOf readOf machineIn freshAt freshRows mapFrom listOf
 read-is l h rows i e p r = go (readable l) refl

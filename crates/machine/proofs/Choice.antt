@@ -67,7 +67,8 @@ not-due clock t k e (Stage.Hyper a l) d h y = absurd (true≢false h)
 not-due clock t k e (Stage.Closed a) d h y = refl
 
 -- in an accepted tick every task in the mask arrives
-pub arrives-law : (clock count mask i : ℕ) (r : Row) (rs : List Row) → Taking clock count mask i (r ∷ rs) → arrives clock count mask i r ≡ inMask mask i
+pub arrives-law : (clock count mask i : ℕ) (r : Row) (rs : List Row) → Taking clock count mask i (r ∷ rs)
+    → arrives clock count mask i r ≡ inMask mask i
 arrives-law clock count mask i r rs t = go (inMask mask i) refl
   where
     go : (b : Bool) → inMask mask i ≡ b → arrives clock count mask i r ≡ b

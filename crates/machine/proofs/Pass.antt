@@ -263,7 +263,8 @@ module _ (m : Machine) (mask i : ℕ) (w : Seen) (next : List Row) (most : i < 3
   one-on : secondBegun (row .k) (row .stage) w ≡ false → howMany begunRow (take (i + 1) (m .rows)) ≤ 1
   one-on e = rw count-on (go (hasBegun (row .k) (row .stage)) refl)
     where
-      go : (b : Bool) → hasBegun (row .k) (row .stage) ≡ b → cond b (suc (howMany begunRow (take i (m .rows)))) (howMany begunRow (take i (m .rows))) ≤ 1
+      go : (b : Bool) → hasBegun (row .k) (row .stage) ≡ b
+          → cond b (suc (howMany begunRow (take i (m .rows)))) (howMany begunRow (take i (m .rows))) ≤ 1
       go true q =
           let k : ltb (w .begun) 32 ≡ false = rw q at e in
           let f = place-none (first begun (take i (m .rows))) (w .begun) begun-below (p .begun-place) (ltb-false (w .begun) 32 k) in
@@ -352,7 +353,8 @@ module _ (m : Machine) (mask i : ℕ) (w : Seen) (next : List Row) (most : i < 3
     still-free : 32 ≤ w′ .soon → (32 ≤ w .soon) × (tooSoon mask (m .clock) i row ≡ false)
     still-free h = go (tooSoon mask (m .clock) i row) refl (ltb (w .soon) 32) refl
       where
-        go : (b : Bool) → tooSoon mask (m .clock) i row ≡ b → (d : Bool) → ltb (w .soon) 32 ≡ d → (32 ≤ w .soon) × (tooSoon mask (m .clock) i row ≡ false)
+        go : (b : Bool) → tooSoon mask (m .clock) i row ≡ b → (d : Bool) → ltb (w .soon) 32 ≡ d
+            → (32 ≤ w .soon) × (tooSoon mask (m .clock) i row ≡ false)
         go true q true f = let z : w′ .soon ≡ w .soon = soon-next ∙ rw (q, f) in let y = ltb-true (w .soon) 32 f in absurd (omega arith)
         go true q false f = let z : w′ .soon ≡ i = soon-next ∙ rw (q, f) in absurd (omega arith)
         go false q d f = let z : w′ .soon ≡ w .soon = soon-next ∙ rw q in (omega arith, q)

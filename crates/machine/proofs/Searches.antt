@@ -44,7 +44,8 @@ cond-none : (b : Bool) (j : ℕ) (x : Found) → cond b (at j) x ≡ none → (b
 cond-none true j x h = let z : _≡_ {A = ℕ} 0 1 = cc in absurd (omega arith)
 cond-none false j x h = (refl, h)
 
-pub none-cons : (p : ℕ → Row → Bool) (i : ℕ) (r : Row) (rs : List Row) → firstFrom p i (r ∷ rs) ≡ none → (p i r ≡ false) × (firstFrom p (suc i) rs ≡ none)
+pub none-cons : (p : ℕ → Row → Bool) (i : ℕ) (r : Row) (rs : List Row) → firstFrom p i (r ∷ rs) ≡ none
+    → (p i r ≡ false) × (firstFrom p (suc i) rs ≡ none)
 unfolding firstFrom
 none-cons p i r rs h = cond-none (p i r) i (firstFrom p (suc i) rs) h
 
@@ -58,7 +59,8 @@ none-at p (r ∷ rs) j (suc k) h lt =
     let z : j + suc k ≡ suc j + k = omega arith in
     rw z (none-at p rs (suc j) k (none-cons p j r rs h .1) (omega arith))
 
-pub all-none : (p : ℕ → Row → Bool) (l : List Row) (j : ℕ) → ((k : ℕ) → k < length l → p (j + k) (getD l k noRow) ≡ false) → firstFrom p j l ≡ none
+pub all-none : (p : ℕ → Row → Bool) (l : List Row) (j : ℕ) → ((k : ℕ) → k < length l → p (j + k) (getD l k noRow) ≡ false)
+    → firstFrom p j l ≡ none
 unfolding firstFrom
 all-none p [] j f = refl
 all-none p (r ∷ rs) j f =
@@ -160,14 +162,16 @@ first-more p j (x ∷ xs) r =
     go true e = refl
     go false e = e
 
-first-end : (p : ℕ → Row → Bool) (l : List Row) (r : Row) → first p (l ++ (r ∷ [])) ≡ orElse (first p l) (cond (p (length l) r) (at (length l)) none)
+first-end : (p : ℕ → Row → Bool) (l : List Row) (r : Row)
+    → first p (l ++ (r ∷ [])) ≡ orElse (first p l) (cond (p (length l) r) (at (length l)) none)
 first-end p l r = let z : 0 + length l ≡ length l = omega arith in rw z at (first-more p 0 l r)
 
 pub none-more : (p : ℕ → Row → Bool) (l : List Row) (r : Row) → first p l ≡ none → p (length l) r ≡ false → first p (l ++ (r ∷ [])) ≡ none
 none-more p l r h e = first-end p l r ∙ rw (h, e)
 
 -- what was found first stays
-kept-or : (b : Bool) (f : Found) (i : ℕ) → ((k : ℕ) → f ≡ at k → k < 32) → place (orElse f (cond b (at i) none)) ≡ cond b (firstKept (place f) i) (place f)
+kept-or : (b : Bool) (f : Found) (i : ℕ) → ((k : ℕ) → f ≡ at k → k < 32)
+    → place (orElse f (cond b (at i) none)) ≡ cond b (firstKept (place f) i) (place f)
 kept-or true (at k) i h = rw (lt-ltb k 32 (h k refl))
 kept-or false (at k) i h = refl
 kept-or true none i h = refl

@@ -22,7 +22,8 @@ use Rattle.machine_laws.proofs.Stages.{never-fits}
 abbrev nevers : List Row → List Row
 nevers rows = mapFrom (λ i r. withStage r Stage.Never) 0 rows
 
-every-never : (clock i : ℕ) (rows : List Row) → every fieldsFit rows ≡ true → every (rowFits clock) (mapFrom (λ j r. withStage r Stage.Never) i rows) ≡ true
+every-never : (clock i : ℕ) (rows : List Row) → every fieldsFit rows ≡ true
+    → every (rowFits clock) (mapFrom (λ j r. withStage r Stage.Never) i rows) ≡ true
 unfolding every mapFrom fieldsFit
 every-never clock i [] h = refl
 every-never clock i (r ∷ rs) h =

@@ -96,7 +96,8 @@ runs-placed clock count task signal i early r runs p = go (ltb i count) p
     go false h = absurd (true≢false (never-runs (r .stage) (blank-never r (not-false (isBlank r) h)) runs))
 
 -- a guest that ran has begun no hypertask
-guest-begins-none : (task signal : ℕ) (early : Bool) (c k : ℕ) (s : Stage) → hasBudget c s ≡ true → hasBegun k (ranFrom task signal early c s .stage) ≡ false
+guest-begins-none : (task signal : ℕ) (early : Bool) (c k : ℕ) (s : Stage) → hasBudget c s ≡ true
+    → hasBegun k (ranFrom task signal early c s .stage) ≡ false
 guest-begins-none task signal early c k Stage.Never h = refl
 guest-begins-none task signal early c k (Stage.Guest a u) h = go (eqb signal task) refl
   where
@@ -108,7 +109,8 @@ guest-begins-none task signal early c k (Stage.Closed a) h = refl
 
 -- at most one hypertask has begun, also after the chosen task ran
 one-stays : (rows : List Row) (i signal : ℕ) (early : Bool) → chosen rows ≡ at i → howMany begunRow rows ≤ 1
-    → howMany begunRow (set rows i (withStage (getD rows i noRow) (ranFrom (i + 1) signal early (getD rows i noRow .c) (getD rows i noRow .stage) .stage))) ≤ 1
+    → howMany begunRow
+    (set rows i (withStage (getD rows i noRow) (ranFrom (i + 1) signal early (getD rows i noRow .c) (getD rows i noRow .stage) .stage))) ≤ 1
 unfolding chosen
 one-stays rows i signal early c one = go (first begun rows) refl (first waiting rows) refl (first ready rows) refl c
   where
@@ -150,7 +152,8 @@ module _ (m : Machine) (mask : ℕ) (long : length (m .rows) ≡ 32) (ok : Passe
       rw (turned-law (m .clock) mask (m .rows), map-at (turnedRow (m .clock) mask) (m .rows) 0 k lo, zero-add k)
       (go (getD (m .rows) k noRow) (ltb k (m .count)) refl was past)
     where
-      go : (r : Row) (x : Bool) → ltb k (m .count) ≡ x → not (cond x (rowFits (m .clock) r) (isBlank r)) ≡ false → pastLast mask (m .count) k r ≡ false
+      go : (r : Row) (x : Bool) → ltb k (m .count) ≡ x → not (cond x (rowFits (m .clock) r) (isBlank r)) ≡ false
+          → pastLast mask (m .count) k r ≡ false
           → not (cond x (rowFits (m .clock + 1) (turnedRow (m .clock) mask k r)) (isBlank (turnedRow (m .clock) mask k r))) ≡ false
       go r true e h p = rw (row-next (m .clock) mask k r (not-false (rowFits (m .clock) r) h))
       go r false e h p =
@@ -255,7 +258,8 @@ pub step-not-8 : (m : Machine) (mask signal : ℕ) (early : Bool) (p : ℕ) → 
 unfolding stepOf taken
 step-not-8 m mask signal early p h e = go (verdict m mask) refl e
   where
-    ran : (f : Found) → ranOn (m .count) (m .clock) (turned (m .clock) mask (m .rows)) signal early f .answer ≡ Answer.Refused (Refusal.NotWellFormed p) → ⊥
+    ran : (f : Found) → ranOn (m .count) (m .clock) (turned (m .clock) mask (m .rows)) signal early f .answer
+        ≡ Answer.Refused (Refusal.NotWellFormed p) → ⊥
     ran (at i) q = let z : _≡_ {A = ℕ} 0 1 = cc in omega arith
     ran none q = let z : _≡_ {A = ℕ} 0 1 = cc in omega arith
 

@@ -51,7 +51,8 @@ module _ (clock c k e : ℕ) where
   closed-fits a p = rw (le-leb a clock p)
 
 -- step 1 leaves each stage fit for the next clock
-pub enforced-fits : (clock c k e : ℕ) (s : Stage) → 1 ≤ k → stageFits clock c k e s ≡ true → stageFits (clock + 1) c k e (enforced clock k e s) ≡ true
+pub enforced-fits : (clock c k e : ℕ) (s : Stage) → 1 ≤ k → stageFits clock c k e s ≡ true
+    → stageFits (clock + 1) c k e (enforced clock k e s) ≡ true
 enforced-fits clock c k e Stage.Never hk h = never-fits (clock + 1) c k e
 enforced-fits clock c k e (Stage.Guest a u) hk h =
     let t = guest-says clock c k e a u h in

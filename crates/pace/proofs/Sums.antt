@@ -16,14 +16,16 @@ use Rattle.pace.specs.Pace.{saidSum, machineAfter, saidAt, ticksSum, pac
 
 -- one tick more
 module _ (m : Machine) (mask signal : ℕ) (early : Bool) (i : ℕ) (at : Machine) (s : Stepped) where
-  stepped : at ≡ machineAfter m mask signal early i → s ≡ stepOf at mask signal early → s ≡ stepOf (machineAfter m mask signal early i) mask signal early
+  stepped : at ≡ machineAfter m mask signal early i → s ≡ stepOf at mask signal early
+      → s ≡ stepOf (machineAfter m mask signal early i) mask signal early
   stepped p e = e ∙ ap (λ (x : Machine). stepOf x mask signal early) p
 
   pub machine-more : at ≡ machineAfter m mask signal early i → s ≡ stepOf at mask signal early → s .machine ≡ machineAfter m mask signal early (i + 1)
   unfolding machineAfter
   machine-more p e = ap (λ (x : Stepped). x .machine) (stepped p e) ∙ ap (machineAfter m mask signal early) (sym (add-one i))
 
-  pub sum-more : (total x : ℕ) → at ≡ machineAfter m mask signal early i → s ≡ stepOf at mask signal early → total ≡ ticksSum m mask signal early i
+  pub sum-more : (total x : ℕ) → at ≡ machineAfter m mask signal early i → s ≡ stepOf at mask signal early
+      → total ≡ ticksSum m mask signal early i
       → x ≡ saidSum (s .answer) → total + x ≡ ticksSum m mask signal early (i + 1)
   unfolding ticksSum saidAt
   sum-more total x p e t h = sum-step _ _ _ _ t (h ∙ ap (λ (y : Stepped). saidSum (y .answer)) (stepped p e))

@@ -63,16 +63,19 @@ by-kinds (suc n) lo hi (s ∷ rest) e r =
     same again q =
         ap (λ (b : List ℕ). optional lo b ++ byKinds (suc lo) n (s ∷ rest)) (this-kind lo s rest (sym q))
         ∙ ap (λ (l : List Section). l ++ byKinds (suc lo) n (s ∷ rest)) (there lo (s .body) (r .2) ∙ ap (λ (k : ℕ). section k (s .body) ∷ []) q)
-        ∙ ap (λ (l : List Section). s ∷ l) (passed-by n (suc lo) s rest (omega arith) ∙ again rest (subst (λ (k : ℕ). Rising (suc k) hi rest) (sym q) (r .3)))
+        ∙ ap (λ (l : List Section). s ∷ l) (passed-by n (suc lo) s rest (omega arith)
+        ∙ again rest (subst (λ (k : ℕ). Rising (suc k) hi rest) (sym q) (r .3)))
 
     later : ((l : List Section) → Rising (suc lo) hi l → byKinds (suc lo) n l ≡ l) → lo < s .kind → byKinds lo (suc n) (s ∷ rest) ≡ s ∷ rest
     later again q =
         let up : Rising (suc lo) hi (s ∷ rest) = (q, r .1, r .2, r .3) in
-        ap (λ (b : List ℕ). optional lo b ++ byKinds (suc lo) n (s ∷ rest)) (missing (s ∷ rest) (suc lo) hi lo up (omega arith)) ∙ again (s ∷ rest) up
+        ap (λ (b : List ℕ). optional lo b ++ byKinds (suc lo) n (s ∷ rest)) (missing (s ∷ rest) (suc lo) hi lo up (omega arith))
+        ∙ again (s ∷ rest) up
 
 -- kinds that count up from lo rise
 rises : (ss : List Section) (lo from hi : ℕ) → lo ≤ from → from + length ss ≤ hi
-    → ((i : ℕ) → i < length ss → sectionIn ss i .kind ≡ from + i) → ((i : ℕ) → i < length ss → 1 ≤ length (sectionIn ss i .body)) → Rising lo hi ss
+    → ((i : ℕ) → i < length ss → sectionIn ss i .kind ≡ from + i)
+    → ((i : ℕ) → i < length ss → 1 ≤ length (sectionIn ss i .body)) → Rising lo hi ss
 rises [] lo from hi a b kinds full = tt
 rises (s ∷ rest) lo from hi a b kinds full =
     let k : s .kind ≡ from + 0 = kinds 0 (omega arith) in (

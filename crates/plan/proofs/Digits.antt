@@ -52,7 +52,8 @@ number-at p x rest k e h =
     ∙ number-front x rest h
 
 -- write what was read
-write-read : (a b c d : ℕ) → a < 256 → b < 256 → c < 256 → d < 256 → bytesOf (a + 256 * b + 65536 * c + 16777216 * d) ≡ (a ∷ b ∷ c ∷ d ∷ [])
+write-read : (a b c d : ℕ) → a < 256 → b < 256 → c < 256 → d < 256
+    → bytesOf (a + 256 * b + 65536 * c + 16777216 * d) ≡ (a ∷ b ∷ c ∷ d ∷ [])
 write-read a b c d ha hb hc hd =
     let n : ℕ = a + 256 * b + 65536 * c + 16777216 * d in
     let q1 : ℕ = b + 256 * c + 65536 * d in
@@ -75,7 +76,8 @@ more f k j j′ e h =
     let z : suc (k + j) ≡ k + j′ = omega arith in
     drop-cons f (k + j) 0 h ∙ ap (λ (x : ℕ). getD f (k + j) 0 ∷ drop x f) z
 
-pub take-four : (f : List ℕ) (k : ℕ) → k + 4 ≤ length f → take 4 (drop k f) ≡ (getD f k 0 ∷ getD f (k + 1) 0 ∷ getD f (k + 2) 0 ∷ getD f (k + 3) 0 ∷ [])
+pub take-four : (f : List ℕ) (k : ℕ) → k + 4 ≤ length f
+    → take 4 (drop k f) ≡ (getD f k 0 ∷ getD f (k + 1) 0 ∷ getD f (k + 2) 0 ∷ getD f (k + 3) 0 ∷ [])
 take-four f k h =
     rw d0 (rw (more f k 1 2 refl (omega arith)) (rw (more f k 2 3 refl (omega arith)) (rw (more f k 3 4 refl (omega arith)))))
   where

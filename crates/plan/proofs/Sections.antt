@@ -124,7 +124,8 @@ module _ (ss : List Section) (small : length (fileOf ss) < 4294967296) where
         ∙ ap (λ (x : ℕ). before ss i + x) (length-append (s .body) rest) in
         omega (arith, file-length ss)
 
-    entry-bytes : drop (4 + 12 * i) file ≡ entryBytes (s .kind) start (length (s .body)) ++ (contents (start + length (s .body)) (drop (suc i) ss) ++ bodies ss)
+    entry-bytes : drop (4 + 12 * i) file
+        ≡ entryBytes (s .kind) start (length (s .body)) ++ (contents (start + length (s .body)) (drop (suc i) ss) ++ bodies ss)
     unfolding fileOf contents
     entry-bytes =
         drop-append-le (4 + 12 * i) (bytesOf (length ss) ++ contents at ss) (bodies ss) (omega (arith, contents-length at ss))

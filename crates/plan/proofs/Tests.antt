@@ -49,7 +49,8 @@ at-inv r (some k) next e = let z : _≡_ {A = ℕ} 0 1 = cc in absurd (omega ari
 at-inv r none next e = (refl, e)
 
 -- equal arguments
-pub same3 : {A B C D : Type 0} (g : A → B → C → D) {a a′ : A} {b b′ : B} {c c′ : C} → a ≡ a′ → b ≡ b′ → c ≡ c′ → g a b c ≡ g a′ b′ c′
+pub same3 : {A B C D : Type 0} (g : A → B → C → D) {a a′ : A} {b b′ : B} {c c′ : C} → a ≡ a′ → b ≡ b′ → c ≡ c′
+    → g a b c ≡ g a′ b′ c′
 same3 g p q r = cc
 
 -- 15
@@ -71,7 +72,8 @@ module _ (start : ℕ) (last : Bool) (len : ℕ) (e : Entry) where
   pub too-long : len < e .offset + e .length → wrongPlace start last len e ≡ true
   too-long h = rw (lt-ltb len (e .offset + e .length) h, or-true (not (eqb (e .offset) start)))
 
-  pub last-placed : last ≡ true → e .offset ≡ start → e .offset + e .length ≤ len → wrongPlace start last len e ≡ not (eqb (e .offset + e .length) len)
+  pub last-placed : last ≡ true → e .offset ≡ start → e .offset + e .length ≤ len
+      → wrongPlace start last len e ≡ not (eqb (e .offset + e .length) len)
   last-placed l a b = rw (eq-eqb (e .offset) start a, le-ltb len (e .offset + e .length) b, l)
 
   pub inner-placed : last ≡ false → e .offset ≡ start → e .offset + e .length ≤ len → wrongPlace start last len e ≡ false

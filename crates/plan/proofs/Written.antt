@@ -31,7 +31,8 @@ entry-left-out : (k o n : ℕ) → n ≡ 0 → optionalBytes k o n ≡ []
 unfolding optionalBytes
 entry-left-out k o n h = rw (eq-eqb n 0 h)
 
-pub put-there : (o : List ℕ) {x : List ℕ} (at k a n : ℕ) → (n ≡ 0 → ⊥) → x ≡ sets o at (entryBytes k a n) → x ≡ sets o at (optionalBytes k a n)
+pub put-there : (o : List ℕ) {x : List ℕ} (at k a n : ℕ) → (n ≡ 0 → ⊥) → x ≡ sets o at (entryBytes k a n)
+    → x ≡ sets o at (optionalBytes k a n)
 put-there o at k a n h e = e ∙ ap (sets o at) (sym (entry-there k a n h))
 
 pub put-left-out : (o : List ℕ) (at k a n : ℕ) → n ≡ 0 → o ≡ sets o at (optionalBytes k a n)
@@ -71,7 +72,8 @@ plan-bytes t s =
     let os = optional scriptKind s in
     let c : suc (length os) ≡ sectionCount n = omega (arith, optional-count scriptKind s) in
     ap (λ (x : ℕ). bytesOf x ++ (entryBytes rowsKind (4 + 12 * x) (length tb) ++ contents (4 + 12 * x + length tb) os) ++ (tb ++ bodies os)) c
-    ∙ ap (λ (x : ℕ). bytesOf (sectionCount n) ++ (entryBytes rowsKind (bodiesAt n) x ++ contents (bodiesAt n + x) os) ++ (tb ++ bodies os)) (table-length t)
+    ∙ ap (λ (x : ℕ). bytesOf (sectionCount n) ++ (entryBytes rowsKind (bodiesAt n) x ++ contents (bodiesAt n + x) os)
+    ++ (tb ++ bodies os)) (table-length t)
     ∙ ap (λ (l : List ℕ). bytesOf (sectionCount n) ++ (entryBytes rowsKind (bodiesAt n) (4 * m) ++ l) ++ (tb ++ bodies os))
     (optional-contents (bodiesAt n + 4 * m) scriptKind s)
     ∙ ap (λ (l : List ℕ). headBytes m n ++ (tb ++ l)) (optional-bodies scriptKind s)
@@ -97,7 +99,8 @@ module _ (t s : List ℕ) (room : ℕ) where
   unfolding writeRefusal
   stop-eights e g = rw (e, ne-eqb _ _ g)
 
-  pub stop-record : (r : ℕ) → wrongTable (length t) ≡ false → length s % 8 ≡ 0 → firstWrongRecord s ≡ some r → writeRefusal t s room ≡ some (RecordBytes r)
+  pub stop-record : (r : ℕ) → wrongTable (length t) ≡ false → length s % 8 ≡ 0 → firstWrongRecord s ≡ some r
+      → writeRefusal t s room ≡ some (RecordBytes r)
   unfolding writeRefusal
   stop-record r e g h = rw (e, eq-eqb _ _ g, h)
 
@@ -111,12 +114,14 @@ module _ (t s : List ℕ) (room : ℕ) where
     unfolding writeRefusal
     stop-total e g h k = rw (e, eq-eqb _ _ g, h, whole) (rw k)
 
-    pub stop-room : wrongTable (length t) ≡ false → length s % 8 ≡ 0 → firstWrongRecord s ≡ none → wrongLength need ≡ false → ltb room need ≡ true
+    pub stop-room : wrongTable (length t) ≡ false → length s % 8 ≡ 0 → firstWrongRecord s ≡ none → wrongLength need ≡ false
+        → ltb room need ≡ true
         → writeRefusal t s room ≡ some (OutputShort need)
     unfolding writeRefusal
     stop-room e g h k l = rw (e, eq-eqb _ _ g, h, whole) (rw (k, l))
 
-    pub go-write : wrongTable (length t) ≡ false → length s % 8 ≡ 0 → firstWrongRecord s ≡ none → wrongLength need ≡ false → ltb room need ≡ false
+    pub go-write : wrongTable (length t) ≡ false → length s % 8 ≡ 0 → firstWrongRecord s ≡ none → wrongLength need ≡ false
+        → ltb room need ≡ false
         → writeRefusal t s room ≡ none
     unfolding writeRefusal
     go-write e g h k l = rw (e, eq-eqb _ _ g, h, whole) (rw (k, l))

@@ -117,7 +117,8 @@ fn put_contents(output: &mut [u8], m: usize, n: usize)
 
 // The whole file, at the front of a lent output that has room for it.
 fn put_file(output: &mut [u8], table: &[u32], script: &[u8])
-    requires { ⌜ (4 ≤ length (now table)) × (length (now table) ≤ 128) × (fileLength (length (now table)) (length (now script)) ≤ length (now output)) ⌝ }
+    requires { ⌜ (4 ≤ length (now table)) × (length (now table) ≤ 128)
+        × (fileLength (length (now table)) (length (now script)) ≤ length (now output)) ⌝ }
     ensures { λ _. ⌜ now (output .exit) ≡ sets (now (output .entry)) 0 (planFile (now (table .entry)) (now (script .entry))) ⌝ }
 {
     let start = 4 + 12 * section_count(script.len());

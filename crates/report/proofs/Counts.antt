@@ -41,7 +41,8 @@ pub record Partly (p : ℕ → Bool) (a₀ : List ℕ) (i : ℕ) (a : List ℕ) 
 pub partly-none : (p : ℕ → Bool) (a : List ℕ) → Partly p a 0 a
 partly-none p a = record { below = λ j h. absurd (omega arith); above = λ j h. refl }
 
-pub partly-more : (p : ℕ → Bool) (a₀ a : List ℕ) (i x : ℕ) → i < length a → x ≡ getD a i 0 + one (p i) → Partly p a₀ i a → Partly p a₀ (i + 1) (set a i x)
+pub partly-more : (p : ℕ → Bool) (a₀ a : List ℕ) (i x : ℕ) → i < length a → x ≡ getD a i 0 + one (p i) → Partly p a₀ i a
+    → Partly p a₀ (i + 1) (set a i x)
 partly-more p a₀ a i x h e q = record { below = low; above = λ j k. getD-set-other a i j x 0 (λ z. absurd (omega arith)) ∙ q .above j (omega arith) }
   where
     low : (j : ℕ) → j < i + 1 → getD (set a i x) j 0 ≡ getD a₀ j 0 + one (p j)
@@ -112,7 +113,8 @@ totals-none =
 
 module _ (r : Run) (t : Tick) (a g h a′ g′ h′ : List ℕ) (old : Totals (r .taken) a g h)
     (long-a : length a′ ≡ 32) (long-g : length g′ ≡ 32) (long-h : length h′ ≡ 32) where
-  by-answer : (x : Answer) → Added a (λ i. bringsTo (t .mask) i x) a′ → Added g (λ i. guestGivesTo i x) g′ → Added h (λ i. hypertaskGivesTo i x) h′
+  by-answer : (x : Answer) → Added a (λ i. bringsTo (t .mask) i x) a′ → Added g (λ i. guestGivesTo i x) g′
+      → Added h (λ i. hypertaskGivesTo i x) h′
       → Totals (r .taken ++ takenBy t x) a′ g′ h′
   by-answer (Answer.Taken said) p q s =
       let e : TakenTick = record { tick = t; said = said } in

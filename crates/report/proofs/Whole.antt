@@ -21,7 +21,8 @@ module _ (file lent : List ℕ) where
       let e : fits (textOf file) lent ≡ true = le-leb (length (textOf file)) (length lent) room in
       record { answers = rw e (ap Written (put-counts p (omega arith))); leaves = rw e (put-whole p room) }
 
-  pub written-at-once : (after : List ℕ) (r : ℕ) → Put lent 0 (textOf file) after r → r ≤ longest → longest ≤ length lent → Reports file lent (Written r) after
+  pub written-at-once : (after : List ℕ) (r : ℕ) → Put lent 0 (textOf file) after r → r ≤ longest → longest ≤ length lent
+      → Reports file lent (Written r) after
   written-at-once after r p short room = written after r p short (omega (arith, put-counts p (omega arith)))
 
   pub too-short : (n : ℕ) → n ≡ length (textOf file) → length lent < n → Reports file lent (TooShort n) lent

@@ -48,7 +48,8 @@ abbrev pub Left : List ℕ → ℕ → List ℕ → List ℕ → ℕ → List �
 Left a i w b j u = (o : List ℕ) (r : ℕ) → Put b j u o r → Put a i w o r
 
 -- a turn puts t, the first piece of what is left
-pub left-more : {a w b b′ : List ℕ} {i j j′ : ℕ} (t u u′ : List ℕ) → Left a i w b j u → Put b j t b′ j′ → t ++ u′ ≡ u → Left a i w b′ j′ u′
+pub left-more : {a w b b′ : List ℕ} {i j j′ : ℕ} (t u u′ : List ℕ) → Left a i w b j u → Put b j t b′ j′
+    → t ++ u′ ≡ u → Left a i w b′ j′ u′
 left-more t u u′ l p e o r q = l o r (rw (← e) (put-then p q))
 
 -- nothing is left

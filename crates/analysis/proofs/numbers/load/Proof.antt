@@ -15,7 +15,8 @@ rounded-up-requires : tie.Need-rounded-up-requires
 rounded-up-requires c κs = search needs
 
 -- src/numbers.rt:34:5
-value : (c : tie.After-rounded-up) → c .rounded-up .result * c .before .args .ticks ≡ up (c .before .args .w) (c .before .args .period) * c .before .args .ticks
+value : (c : tie.After-rounded-up)
+    → c .rounded-up .result * c .before .args .ticks ≡ up (c .before .args .w) (c .before .args .period) * c .before .args .ticks
 value c = ap (λ (x : ℕ). x * c .before .args .ticks) (c .rounded-up .ensures)
 
 mul-result : tie.Need-mul-result

@@ -14,7 +14,8 @@ use Rattle.export.proofs.state.put_rows.Statement.{statement}
 use Rattle.export.proofs.state.put_rows.Tie as tie
 
 abbrev Inv-loop : tie.InvT-loop
-Inv-loop state₀ rows i₀ state i = (i ≤ 32) × (state ≡ take 2 state₀ ++ flat (placeNumbers rows) i ++ drop (2 + 8 * i) state₀) × (length state ≡ length state₀)
+Inv-loop state₀ rows i₀ state i = (i ≤ 32) × (state ≡ take 2 state₀ ++ flat (placeNumbers rows) i ++ drop (2 + 8 * i) state₀)
+    × (length state ≡ length state₀)
 
 abbrev μ-loop : tie.MeasureT-loop
 μ-loop state₀ rows i₀ state i = 32 - i

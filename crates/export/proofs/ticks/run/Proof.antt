@@ -13,7 +13,8 @@ use Rattle.export.proofs.ticks.run.Tie as tie
 
 abbrev Inv-loop : tie.InvT-loop
 Inv-loop records answers₀ n at₀ i₀ answers at i =
-    (i ≤ n) × (at ≡ machineAfter at₀ records i) × (answers ≡ flat (answerTo at₀ records) i ++ drop (12 * i) answers₀) × (length answers ≡ length answers₀)
+    (i ≤ n) × (at ≡ machineAfter at₀ records i) × (answers ≡ flat (answerTo at₀ records) i ++ drop (12 * i) answers₀)
+    × (length answers ≡ length answers₀)
 
 abbrev μ-loop : tie.MeasureT-loop
 μ-loop records answers₀ n at₀ i₀ answers at i = n - i

@@ -195,7 +195,8 @@ loop2-again c =
     let a = p .before .before .before .before .before .args in
     let i = v .loop2 .i in
     let same = reads (a .self) (a .mask) i (p .loop .w) (p .loop .next) (omega arith) (v .loop2 .inv .3) in
-    let blank : isBlank (getD (a .self .rows) i noRow) ≡ true = sym (ap isBlank same) ∙ sym (c .before .is-blank .ensures) ∙ not-false _ (c .if5 .left) in (
+    let blank : isBlank (getD (a .self .rows) i noRow) ≡ true = sym (ap isBlank same) ∙ sym (c .before .is-blank .ensures)
+    ∙ not-false _ (c .if5 .left) in (
       omega arith,
       omega arith,
       v .loop2 .inv .2,

@@ -42,7 +42,8 @@ returns c =
 
 -- the entry that was found
 entry-found : (c : tie.After-known-told)
-    → firstEntry (OfKind (c .before .before .before .before .before .before .args .kind)) (now (c .before .before .before .before .before .before .args .file))
+    → firstEntry (OfKind (c .before .before .before .before .before .before .args .kind))
+    (now (c .before .before .before .before .before .before .args .file))
     ≡ some (c .before .i .given .0 .0)
 entry-found c = found-some _ _ (sym (c .before .i .given .1) ∙ c .before .before .before .first-entry .ensures)
 

@@ -31,7 +31,8 @@ no-kind : (c : tie.After-enum-told) → firstEntry WrongKind (now (c .before .be
 no-kind c = found-none _ (sym (c .enum-told .given .1) ∙ c .before .before .first-entry .ensures)
 
 some-place : (c : tie.After-known-told2)
-    → firstEntry WrongPlace (now (c .before .before .before .before .before .before .before .before .before .args .file)) ≡ some (c .before .i2 .given .0 .0)
+    → firstEntry WrongPlace (now (c .before .before .before .before .before .before .before .before .before .args .file))
+    ≡ some (c .before .i2 .given .0 .0)
 some-place c = found-some _ _ (sym (c .before .i2 .given .1) ∙ c .before .before .before .first-entry2 .ensures)
 
 no-place : (c : tie.After-enum-told2) → firstEntry WrongPlace (now (c .before .before .before .before .before .before .before .before .args .file)) ≡ none

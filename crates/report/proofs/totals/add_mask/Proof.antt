@@ -68,7 +68,8 @@ loop-again c =
     let i = s .loop .i in (
       omega arith,
       length-set a i (getD a i 0 + c .bit .result) ∙ s .loop .inv .1,
-      partly-more (inMask (c5 .args .mask)) (c5 .args .arrived .now) a i _ (omega arith) (ap (λ (x : ℕ). getD a i 0 + x) (c .bit .ensures)) (s .loop .inv .2),
+      partly-more (inMask (c5 .args .mask)) (c5 .args .arrived .now) a i _ (omega arith)
+          (ap (λ (x : ℕ). getD a i 0 + x) (c .bit .ensures)) (s .loop .inv .2),
     )
 
 -- src/totals.rt:24:1
