@@ -18,11 +18,12 @@ use Rattle.machine.specs.declared.Machine.{Machine}
 use Rattle.machine.specs.Rows.{age, inMask, hasBegun}
 use Rattle.machine.specs.TickRule.{verdict, accepted, turned, chosen, ranOn, taken}
 use Rattle.start.specs.Start.{rowOf}
+use Rattle.machine.proofs.Tests.{age-sum}
 use Rattle.demands.proofs.Sums.{sum-none}
 use Rattle.demands.proofs.Hypertasks as H
 use Rattle.demands.proofs.Guests as G
 use Rattle.demands.proofs.Guests.{Phase, rest, held}
-use Rattle.demands.proofs.Rows.{leftOf, budgetOf, nextArrivalOf, nextHyperOf, Okay, turnedStage, age-law, clash}
+use Rattle.demands.proofs.Rows.{leftOf, budgetOf, nextArrivalOf, nextHyperOf, Okay, turnedStage, clash}
 use Rattle.demands.proofs.Ticks.{rowAt, stageAt, Shaped, RowsFit, Legal, legal, view, Ticked, ticks, turned-stage}
 use Rattle.demands.proofs.Accepted.{level, glevel, fits, offset, deadline, offset-early}
 
@@ -35,7 +36,7 @@ was-hyper r c false (Stage.Guest b u) a n o e = go (eqb (age c b) (r .e)) refl e
   where
     go : (t : Bool) → eqb (age c b) (r .e) ≡ t → cond t (Stage.Hyper b (r .k)) (Stage.Guest b u) ≡ Stage.Hyper a n →
         (Stage.Guest b u ≡ Stage.Hyper a n) ⊎ (a + r .e ≡ c)
-    go true q e = let z : b ≡ a = cc in inr (omega (arith, age-law c b (o .0), eqb-true (age c b) (r .e) q))
+    go true q e = let z : b ≡ a = cc in inr (omega (arith, age-sum c b (o .0), eqb-true (age c b) (r .e) q))
     go false q e = inl e
 was-hyper r c false (Stage.Hyper b l) a n o e = inl e
 was-hyper r c false (Stage.Closed b) a n o e = inl e

@@ -10,14 +10,9 @@ use Rattle.machine.specs.declared.Stage.{Stage}
 use Rattle.machine.specs.declared.Row.{Row}
 use Rattle.machine.specs.Rows.{age, isHyper, hasBegun, hasBudget}
 use Rattle.machine.specs.TickRule.{youngerThan, enforced, ranFrom}
-use Rattle.machine.proofs.Tests.{or-false-right}
+use Rattle.machine.proofs.Tests.{or-false-right, age-sum}
 use Rattle.demands.proofs.Source.{Source, nothing-new, new-job}
 use Rattle.demands.proofs.Guests.{Phase, rest, held}
-
--- all that is used of ages: an arrival plus its age is the clock
-pub age-law : (c a : ℕ) → a ≤ c → a + age c a ≡ c
-unfolding age
-age-law c a h = omega arith
 
 pub clash : {A : Type 0} → false ≡ true → A
 clash e = absurd (let z : _≡_ {A = ℕ} 0 1 = cc in omega arith)
@@ -77,9 +72,9 @@ Free r c (Stage.Closed a) = a + r .t ≤ c
 
 pub free : (r : Row) (c : ℕ) (s : Stage) → Okay r c s → youngerThan c (r .t) s ≡ false → isHyper s ≡ false → Free r c s
 free r c Stage.Never o y h = tt
-free r c (Stage.Guest a u) o y h = omega (arith, age-law c a (o .0), ltb-false (age c a) (r .t) y)
+free r c (Stage.Guest a u) o y h = omega (arith, age-sum c a (o .0), ltb-false (age c a) (r .t) y)
 free r c (Stage.Hyper a l) o y h = clash (sym h)
-free r c (Stage.Closed a) o y h = omega (arith, age-law c a o, ltb-false (age c a) (r .t) y)
+free r c (Stage.Closed a) o y h = omega (arith, age-sum c a o, ltb-false (age c a) (r .t) y)
 
 -- steps 1 and 2; comes: the row is in the mask
 abbrev pub turnedStage : Row → ℕ → Bool → Stage → Stage
@@ -114,7 +109,7 @@ mid r c false (Stage.Guest a u) e o f = go (eqb (age c a) (r .e)) refl
   where
     go : (t : Bool) → eqb (age c a) (r .e) ≡ t → Mid r c (Stage.Guest a u) (cond t (Stage.Hyper a (r .k)) (Stage.Guest a u))
     go true q =
-        let h : a + r .e ≡ c = omega (arith, age-law c a (o .0), eqb-true (age c a) (r .e) q) in
+        let h : a + r .e ≡ c = omega (arith, age-sum c a (o .0), eqb-true (age c a) (r .e) q) in
         record {
           hypertaskPart = new-job (omega arith) (omega arith) (omega arith);
           guestPart = nothing-new (omega arith) (omega arith);
@@ -123,7 +118,7 @@ mid r c false (Stage.Guest a u) e o f = go (eqb (age c a) (r .e)) refl
         }
     go false q =
         let n : age c a ≢ r .e = eqb-false (age c a) (r .e) q in
-        let h : c < a + r .e = omega (arith, age-law c a (o .0)) in
+        let h : c < a + r .e = omega (arith, age-sum c a (o .0)) in
         record {
           hypertaskPart = nothing-new (omega arith) (omega arith);
           guestPart = nothing-new (omega arith) (omega arith);
