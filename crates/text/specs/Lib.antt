@@ -1,2 +1,4 @@
 pub mod Put
 pub mod Lines
+pub mod Ascii
+pub mod Cases
