@@ -41,11 +41,14 @@ StageClauses clock r (Stage.Hyper arrival left) = HyperClauses clock r arrival l
 StageClauses clock r (Stage.Closed arrival) = arrival ≤ clock
 
 -- Hyper with fewer than K left
-abbrev pub Begun : ℕ → Stage → Type 0
-Begun k Stage.Never = ⊥
-Begun k (Stage.Guest arrival used) = ⊥
-Begun k (Stage.Hyper arrival left) = left < k
-Begun k (Stage.Closed arrival) = ⊥
+abbrev pub BegunStage : ℕ → Stage → Type 0
+BegunStage k Stage.Never = ⊥
+BegunStage k (Stage.Guest arrival used) = ⊥
+BegunStage k (Stage.Hyper arrival left) = left < k
+BegunStage k (Stage.Closed arrival) = ⊥
+
+abbrev pub Begun : Row → Type 0
+Begun r = BegunStage (r .k) (r .stage)
 
 -- a state that is well formed
 pub record Clauses (m : Machine) : Type 0 where
@@ -57,7 +60,7 @@ pub record Clauses (m : Machine) : Type 0 where
   pub time : m .clock ≤ 2 ^ 40
   pub stages : (i : ℕ) → i < m .count → StageClauses (m .clock) (rowAt m i) (rowAt m i .stage)
   -- "at most one Hyper has fewer than K left"
-  pub one-begun : (i j : ℕ) → i < m .count → j < m .count → Begun (rowAt m i .k) (rowAt m i .stage) → Begun (rowAt m j .k) (rowAt m j .stage) → i ≡ j
+  pub one-begun : (i j : ℕ) → i < m .count → j < m .count → Begun (rowAt m i) → Begun (rowAt m j) → i ≡ j
   -- "all places past the last row are zero and Never"
   pub blank : (i : ℕ) → m .count ≤ i → i < 32 → rowAt m i ≡ noRow
 
