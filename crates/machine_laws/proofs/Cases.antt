@@ -1,19 +1,18 @@
--- Document 01, "Cases": a machine on P3, arrival at 0. The definitions compute. Assumes nothing.
+-- Document 01, "Cases": a machine on P3, arrival at 0, with each answer by number and place. The definitions compute. Assumes nothing.
 use mathlib.Core.Path.{_≡_, refl}
 use mathlib.Core.Bool.{Bool, true, false}
 use mathlib.Core.List.{List, [], _∷_, _++_}
 use Prim.Native.Nat.{ℕ}
-use Rattle.refusals.specs.declared.Refusal.{Refusal}
 use Rattle.machine.specs.declared.Stage.{Stage}
 use Rattle.machine.specs.declared.Machine.{Machine}
 use Rattle.machine.specs.declared.Ran.{Ran}
 use Rattle.machine.specs.declared.Mark.{Mark}
-use Rattle.machine.specs.declared.Answer.{Answer}
 use Rattle.machine.specs.declared.Stepped.{Stepped}
 use Rattle.machine.specs.Rows.{age, firstFrom, mapFrom, every, howMany}
 use Rattle.machine.specs.WellFormed.{fieldsFit, stageFits, isBlank, wellFormed}
 use Rattle.machine.specs.TickRule.{verdict, chosen, turned, taken, stepOf}
 use Rattle.machine.specs.Fresh.{freshRows, freshAt}
+use Rattle.machine_laws.specs.Ticks.{Says, refused, took, says}
 
 -- P3: 10 8 6 2, whose E is 6
 abbrev p3 : Machine
@@ -34,26 +33,26 @@ abbrev signals : Tick
 signals = record { mask = 0; signal = 1 }
 
 -- the answers to a list of ticks from a machine
-abbrev answers : Machine → List Tick → List Answer
+abbrev answers : Machine → List Tick → List Says
 answers m [] = []
 answers m (x ∷ xs) =
     let s : Stepped = stepOf m (x .mask) (x .signal) false in
-    s .answer ∷ answers (s .machine) xs
+    says (s .answer) ∷ answers (s .machine) xs
 
-abbrev guest : Mark → Answer
-guest mark = Answer.Taken (record { ran = Ran.Guest 1; mark = mark; ignored = false })
+abbrev guest : Mark → Says
+guest mark = took (Ran.Guest 1) mark false
 
-abbrev hypertask : Mark → Bool → Answer
-hypertask mark ignored = Answer.Taken (record { ran = Ran.Hypertask 1; mark = mark; ignored = ignored })
+abbrev hypertask : Mark → Bool → Says
+hypertask mark ignored = took (Ran.Hypertask 1) mark ignored
 
-abbrev nobody : Answer
-nobody = Answer.Taken (record { ran = Ran.Nobody; mark = Mark.Nothing; ignored = false })
+abbrev nobody : Says
+nobody = took Ran.Nobody Mark.Nothing false
 
 -- ticks 0 to 4: the arrival, and a silent guest
 abbrev five : List Tick
 five = arrival ∷ silent ∷ silent ∷ silent ∷ silent ∷ []
 
-abbrev fiveRan : List Answer
+abbrev fiveRan : List Says
 fiveRan = guest Mark.Nothing ∷ guest Mark.Nothing ∷ guest Mark.Nothing ∷ guest Mark.Nothing ∷ guest Mark.Nothing ∷ []
 
 -- signal 1 in tick 5 gives the guest's output
@@ -76,11 +75,11 @@ signal-in-tick-6 = refl
 abbrev till9 : List Tick
 till9 = five ++ signals ∷ silent ∷ silent ∷ silent ∷ []
 
-abbrev till9Ran : List Answer
+abbrev till9Ran : List Says
 till9Ran = fiveRan ++ guest Mark.Output ∷ nobody ∷ nobody ∷ nobody ∷ []
 
 -- a second arrival at 9 is refused with 11
-pub second-arrival-at-9 : answers p3 (till9 ++ arrival ∷ []) ≡ till9Ran ++ Answer.Refused (Refusal.ArrivalTooSoon 1) ∷ []
+pub second-arrival-at-9 : answers p3 (till9 ++ arrival ∷ []) ≡ till9Ran ++ refused 11 1 ∷ []
 unfolding age firstFrom mapFrom every howMany fieldsFit stageFits isBlank wellFormed verdict chosen turned taken stepOf freshRows freshAt
 second-arrival-at-9 = refl
 

@@ -1,1 +1,2 @@
 pub mod Clauses
+pub mod Ticks
