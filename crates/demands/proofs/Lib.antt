@@ -15,3 +15,4 @@ pub mod Example
 pub mod WellFormed
 pub mod Counts
 pub mod Stages
+pub mod Starts
