@@ -4,3 +4,4 @@ pub mod Kept
 pub mod Fresh
 pub mod Ticks
 pub mod Cases
+pub mod Clauses
