@@ -5,3 +5,4 @@ pub mod Fresh
 pub mod Ticks
 pub mod Cases
 pub mod Clauses
+pub mod Refusals
