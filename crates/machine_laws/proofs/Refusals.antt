@@ -6,7 +6,7 @@ use mathlib.Core.Logic.{_↔_}
 use Prim.Native.Nat.{ℕ, zero, suc, _+_, _/_, _%_, _^_, _≤_, _<_}
 use native.Mathlib.Nat.{zero-add, lt-of-not-le}
 use native.Mathlib.Omega.{arith}
-use lib.Dec.{leb, ltb, eqb}
+use lib.Dec.{ltb, eqb}
 use lib.ListN.{length, getD}
 use borrow.Author.Tests.{ltb-true, ltb-false, leb-true, eqb-true, eqb-false, lt-ltb, le-leb, eq-eqb, ne-eqb}
 use Rattle.refusals.specs.declared.Refusal.{Refusal}
@@ -99,23 +99,18 @@ module _ (rows : List Row) (long : length rows ≡ 32) (mask : ℕ) (q : ℕ →
   finds : Finds (first (asked mask q) rows) (Asked mask Q)
   finds = record { nowhere = (none-says, none-holds); lowest = λ i. (at-says i, λ l. at-holds i l (first (asked mask q) rows) refl) }
 
--- its last arrival, if any, is less than T ago
+-- a task's last arrival, if there is one, is less than T ago
 module _ (clock t : ℕ) where
-  ago-exactly : (a : ℕ) → a ≤ clock → (ltb (age clock a) t ≡ true) ↔ ((b : ℕ) × (a ≡ b) × (clock < b + t))
-  ago-exactly a h =
-      let s = age-sum clock a h in (
-        λ q. (a, refl, omega (arith, ltb-true (age clock a) t q)),
-        λ w. lt-ltb (age clock a) t (omega arith),
-      )
+  ago-exactly : (a : ℕ) → (ltb (age clock a) t ≡ true) ↔ ((b : ℕ) × (a ≡ b) × (age clock b < t))
+  ago-exactly a = (λ h. (a, refl, ltb-true (age clock a) t h), λ w. rw (w .1) (lt-ltb (age clock (w .0)) t (w .2)))
 
-  younger-exactly : (s : Stage) → ((a : ℕ) → CameAt a s → a ≤ clock)
-      → (youngerThan clock t s ≡ true) ↔ ((a : ℕ) × CameAt a s × (clock < a + t))
-  younger-exactly Stage.Never f = (λ h. absurd (true≢false (sym h)), λ w. absurd (w .1))
-  younger-exactly (Stage.Guest a u) f = ago-exactly a (f a refl)
-  younger-exactly (Stage.Hyper a l) f = ago-exactly a (f a refl)
-  younger-exactly (Stage.Closed a) f = ago-exactly a (f a refl)
+  younger-exactly : (s : Stage) → (youngerThan clock t s ≡ true) ↔ ((a : ℕ) × CameAt a s × (age clock a < t))
+  younger-exactly Stage.Never = (λ h. absurd (true≢false (sym h)), λ w. absurd (w .1))
+  younger-exactly (Stage.Guest a u) = ago-exactly a
+  younger-exactly (Stage.Hyper a l) = ago-exactly a
+  younger-exactly (Stage.Closed a) = ago-exactly a
 
--- it is Hyper
+-- a task is Hyper
 hyper-exactly : (s : Stage) → (isHyper s ≡ true) ↔ ((a : ℕ) × (left : ℕ) × (s ≡ Stage.Hyper a left))
 hyper-exactly Stage.Never = (λ h. absurd (true≢false (sym h)), λ w. let z : _≡_ {A = ℕ} 0 1 = cc in absurd (omega arith))
 hyper-exactly (Stage.Guest b u) = (λ h. absurd (true≢false (sym h)), λ w. let z : _≡_ {A = ℕ} 0 1 = cc in absurd (omega arith))
@@ -145,13 +140,12 @@ Says m mask (refused (Refusal.RecordBytes p)) = ⊥
 Says m mask (refused (Refusal.OutputShort p)) = ⊥
 
 module _ (m : Machine) (mask : ℕ) (long : length (m .rows) ≡ 32) where
+  -- the searches of 10 to 12
   past : Finds (pastIn m mask) (PastLast m mask)
-  past = finds (m .rows) long mask (λ i r. leb (m .count) i) (λ i. m .count ≤ i) (λ i lt. (leb-true (m .count) i, le-leb (m .count) i))
+  past = finds (m .rows) long mask _ _ (λ i lt. (leb-true (m .count) i, le-leb (m .count) i))
 
   hyper : Finds (hyperIn m mask) (WhileHyper m mask)
-  hyper =
-      finds (m .rows) long mask (λ i r. isHyper (r .stage)) (λ i. (a : ℕ) × (left : ℕ) × (rowAt m i .stage ≡ Stage.Hyper a left))
-      (λ i lt. hyper-exactly (rowAt m i .stage))
+  hyper = finds (m .rows) long mask _ _ (λ i lt. hyper-exactly (rowAt m i .stage))
 
   -- in a well formed state every arrival is at or before the clock
   came : Clauses m → (i a : ℕ) → i < 32 → CameAt a (rowAt m i .stage) → a ≤ m .clock
@@ -169,9 +163,12 @@ module _ (m : Machine) (mask : ℕ) (long : length (m .rows) ≡ 32) where
 
   soon : Clauses m → Finds (soonIn m mask) (TooSoon m mask)
   soon c =
-      finds (m .rows) long mask (λ i r. youngerThan (m .clock) (r .t) (r .stage))
-      (λ i. (a : ℕ) × CameAt a (rowAt m i .stage) × (m .clock < a + rowAt m i .t))
-      (λ i lt. younger-exactly (m .clock) (rowAt m i .t) (rowAt m i .stage) (λ a h. came c i a lt h))
+      finds (m .rows) long mask _ _
+      (λ i lt.
+      let young = younger-exactly (m .clock) (rowAt m i .t) (rowAt m i .stage) in (
+        λ h. let w = young .0 h in let s = age-sum (m .clock) (w .0) (came c i (w .0) lt (w .1)) in (w .0, w .1, omega arith),
+        λ w. let s = age-sum (m .clock) (w .0) (came c i (w .0) lt (w .1)) in young .1 (w .0, w .1, omega arith),
+      ))
 
   -- 10 to 12 don't apply
   known-exactly : (pastIn m mask ≡ none) ↔ Known m mask
@@ -198,6 +195,7 @@ module _ (m : Machine) (mask : ℕ) (long : length (m .rows) ≡ 32) where
   before-end : InTime m → eqb (m .clock) (2 ^ 40) ≡ false
   before-end t = ne-eqb (m .clock) (2 ^ 40) (λ e. omega (arith, t .before-the-end))
 
+  -- checks go by number
   verdict-says : Says m mask (verdict m mask)
   unfolding verdict
   verdict-says = go (wellFormed m) refl (eqb (m .clock) (2 ^ 40)) refl (pastIn m mask) refl (soonIn m mask) refl (hyperIn m mask) refl
@@ -248,3 +246,50 @@ module _ (m : Machine) (mask : ℕ) (long : length (m .rows) ≡ 32) where
       go : (v : Verdict) → verdict m mask ≡ v → (said : Taken) → stepBy m mask signal early v .answer ≡ Answer.Taken said → NoneApplies m mask
       go (refused x) e said q = let z : _≡_ {A = ℕ} 0 1 = cc in absurd (omega arith)
       go accepted e said q = accepted-exactly .0 e
+
+  -- 8 to 12, each where those before it don't apply
+  pub eight-exactly : (verdict m mask ≡ refused (Refusal.NotWellFormed 0)) ↔ Eight m
+  unfolding verdict
+  eight-exactly = (λ e. rw e at verdict-says, λ h. go (wellFormed m) refl h)
+    where
+      go : (x : Bool) → wellFormed m ≡ x → Eight m → verdict m mask ≡ refused (Refusal.NotWellFormed 0)
+      go true e h = absurd (h (well-formed .0 e))
+      go false e h = rw e
+
+  pub nine-exactly : (verdict m mask ≡ refused (Refusal.ClockAtEnd 0)) ↔ Nine m
+  unfolding verdict
+  nine-exactly = (λ e. rw e at verdict-says, λ h. rw (well-formed .1 (h .0), eq-eqb (m .clock) (2 ^ 40) (h .1)))
+
+  pub ten-exactly : (i : ℕ) → (verdict m mask ≡ refused (Refusal.NoSuchTask (i + 1))) ↔ Ten m mask i
+  unfolding verdict
+  ten-exactly i = (
+    λ e.
+        let t : Says m mask (refused (Refusal.NoSuchTask (i + 1))) = rw e at verdict-says in
+        let z : t .0 ≡ i = omega arith in
+        rw z at (t .2),
+    λ h. rw (well-formed .1 (h .0 .well-formed), before-end (h .0), past .lowest i .1 (h .1)),
+  )
+
+  pub eleven-exactly : (i : ℕ) → (verdict m mask ≡ refused (Refusal.ArrivalTooSoon (i + 1))) ↔ Eleven m mask i
+  unfolding verdict
+  eleven-exactly i = (
+    λ e.
+        let t : Says m mask (refused (Refusal.ArrivalTooSoon (i + 1))) = rw e at verdict-says in
+        let z : t .0 ≡ i = omega arith in
+        rw z at (t .2),
+    λ h.
+        let c = h .0 .well-formed in
+        rw (well-formed .1 c, before-end (h .0), known-exactly .1 (h .1), soon c .lowest i .1 (h .2)),
+  )
+
+  pub twelve-exactly : (i : ℕ) → (verdict m mask ≡ refused (Refusal.ArrivalWhileHyper (i + 1))) ↔ Twelve m mask i
+  unfolding verdict
+  twelve-exactly i = (
+    λ e.
+        let t : Says m mask (refused (Refusal.ArrivalWhileHyper (i + 1))) = rw e at verdict-says in
+        let z : t .0 ≡ i = omega arith in
+        rw z at (t .2),
+    λ h.
+        let c = h .0 .well-formed in
+        rw (well-formed .1 c, before-end (h .0), known-exactly .1 (h .1), spaced-exactly c .1 (h .2), hyper .lowest i .1 (h .3)),
+  )
