@@ -3,7 +3,10 @@ use mathlib.Core.Path.{_≡_, refl}
 use mathlib.Core.Bool.{Bool, true, false}
 use mathlib.Core.List.{List, [], _∷_, _++_}
 use Prim.Native.Nat.{ℕ}
+use native.Mathlib.Omega.{arith}
+use lib.ListN.{length}
 use Rattle.machine.specs.declared.Stage.{Stage}
+use Rattle.machine.specs.declared.Row.{Row}
 use Rattle.machine.specs.declared.Machine.{Machine}
 use Rattle.machine.specs.declared.Ran.{Ran}
 use Rattle.machine.specs.declared.Mark.{Mark}
@@ -13,10 +16,29 @@ use Rattle.machine.specs.WellFormed.{fieldsFit, stageFits, isBlank, wellFormed}
 use Rattle.machine.specs.TickRule.{verdict, chosen, turned, taken, stepOf}
 use Rattle.machine.specs.Fresh.{freshRows, freshAt}
 use Rattle.machine_laws.specs.Ticks.{Says, refused, took, says}
+use Rattle.machine_laws.specs.Clauses.{Clauses, NoneApplies}
+use Rattle.machine_laws.proofs.Fresh.{fresh-formed, fresh-length}
+use Rattle.machine_laws.proofs.Clauses.{well-formed-exactly}
+use Rattle.machine_laws.proofs.Refusals.{accepted-exactly}
 
 -- P3: 10 8 6 2, whose E is 6
+abbrev p3Rows : List Row
+p3Rows = record { t = 10; d = 8; c = 6; k = 2; e = 6; stage = Stage.Never } ∷ []
+
 abbrev p3 : Machine
-p3 = freshAt (record { t = 10; d = 8; c = 6; k = 2; e = 6; stage = Stage.Never } ∷ []) 0
+p3 = freshAt p3Rows 0
+
+-- before its first tick it has 32 places and is well formed, and none of 8 to 12 applies to an arrival of its task
+pub p3-places : length (p3 .rows) ≡ 32
+p3-places = fresh-length p3Rows 0 (omega arith)
+
+pub p3-well-formed : Clauses p3
+unfolding every fieldsFit
+p3-well-formed = well-formed-exactly p3 p3-places .0 (fresh-formed p3Rows 0 (omega arith) (omega arith) refl (omega arith))
+
+pub p3-none-applies : NoneApplies p3 1
+unfolding age firstFrom mapFrom every howMany fieldsFit stageFits isBlank wellFormed verdict freshRows freshAt
+p3-none-applies = accepted-exactly p3 1 p3-places .0 refl
 
 -- ticks as mask and signal
 record Tick : Type 0 where

@@ -1,13 +1,17 @@
--- How many rows have a property, after a map and after one place changed. Assumes nothing.
-use mathlib.Core.Path.{_≡_, refl}
+-- How many rows have a property, after a map and after one place changed, and when at most one has it. Assumes nothing.
+use mathlib.Core.Path.{_≡_, refl, sym}
 use mathlib.Core.Bool.{Bool, true, false, cond}
 use mathlib.Core.List.{List, [], _∷_}
+use mathlib.Core.Logic.{_↔_}
 use Prim.Native.Nat.{ℕ, zero, suc, _+_, _≤_, _<_}
 use native.Mathlib.Omega.{arith}
-use lib.ListN.{length, getD, set}
+use lib.Dec.{eqb}
+use lib.ListN.{length, getD, set, length-set}
+use lib.Seq.{getD-set-same, getD-set-other}
+use borrow.Author.Tests.{eqb-true, eqb-false}
 use Rattle.machine.specs.declared.Row.{Row}
-use Rattle.machine.specs.Rows.{noRow, mapFrom, howMany}
-use Rattle.machine.proofs.Searches.{all-none, none-found}
+use Rattle.machine.specs.Rows.{noRow, Found, at, none, first, mapFrom, howMany}
+use Rattle.machine.proofs.Searches.{found-at, all-none, none-found}
 
 pub count-map : (p : Row → Bool) (f : ℕ → Row → Row) (l : List Row) (i : ℕ)
     → ((k : ℕ) → k < length l → p (f (i + k) (getD l k noRow)) ≡ p (getD l k noRow)) → howMany p (mapFrom f i l) ≡ howMany p l
@@ -51,3 +55,35 @@ count-set p (r ∷ rs) (suc i) q h = go (p r) (count-set p rs i q (omega arith))
 pub one-or-none : (b : Bool) → cond b 1 0 ≤ 1
 one-or-none true = omega arith
 one-or-none false = omega arith
+
+-- at most one: any two places that have p are the same place
+pub at-most-one : (p : Row → Bool) (l : List Row) → p noRow ≡ false
+    → (howMany p l ≤ 1) ↔ ((i j : ℕ) → i < length l → j < length l → p (getD l i noRow) ≡ true → p (getD l j noRow) ≡ true → i ≡ j)
+at-most-one p l blank = (λ h i j lo hi a b. same h i j lo hi a b (eqb i j) refl, λ f. one f (first (λ k r. p r) l) refl)
+  where
+    -- without a place that has p there is one fewer
+    less : (k : List Row) (i : ℕ) → i < length k → p (getD k i noRow) ≡ true → howMany p (set k i noRow) + 1 ≡ howMany p k + 0
+    less k i h a = rw (a, blank) at (count-set p k i noRow h)
+
+    same : howMany p l ≤ 1 → (i j : ℕ) → i < length l → j < length l → p (getD l i noRow) ≡ true → p (getD l j noRow) ≡ true
+        → (x : Bool) → eqb i j ≡ x → i ≡ j
+    same h i j lo hi a b true e = eqb-true i j e
+    same h i j lo hi a b false e =
+        let other : getD (set l i noRow) j noRow ≡ getD l j noRow = getD-set-other l i j noRow noRow (λ q. eqb-false i j e (sym q)) in
+        absurd (omega (arith, less l i lo a, less (set l i noRow) j (rw length-set hi) (rw other b)))
+
+    one : ((i j : ℕ) → i < length l → j < length l → p (getD l i noRow) ≡ true → p (getD l j noRow) ≡ true → i ≡ j)
+        → (x : Found) → first (λ k r. p r) l ≡ x → howMany p l ≤ 1
+    one f none e = omega (arith, none-found (λ k r. p r) p (λ k r. refl) 0 l e)
+    one f (at i) e =
+        let t = found-at (λ k r. p r) l i e in
+        omega (arith, less l i (t .0) (t .1), count-none p (set l i noRow) (λ k h. rest k (rw length-set at h) (t .0) (t .1) (eqb k i) refl))
+      where
+        rest : (k : ℕ) → k < length l → i < length l → p (getD l i noRow) ≡ true → (x : Bool) → eqb k i ≡ x
+            → p (getD (set l i noRow) k noRow) ≡ false
+        rest k h lt a true q = rw (eqb-true k i q, getD-set-same l i noRow noRow lt) blank
+        rest k h lt a false q = rw (getD-set-other l i k noRow noRow (eqb-false k i q)) (go (p (getD l k noRow)) refl)
+          where
+            go : (y : Bool) → p (getD l k noRow) ≡ y → y ≡ false
+            go true w = absurd (eqb-false k i q (f k i h lt w a))
+            go false w = refl

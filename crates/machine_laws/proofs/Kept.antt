@@ -67,14 +67,14 @@ begun-same clock mask i r h = go (inMask mask i) h
     go false q = begun-stays clock (r .k) (r .e) (r .stage)
 
 -- a place is as it should be at this clock
-abbrev Placed : ℕ → ℕ → ℕ → Row → Type 0
+abbrev pub Placed : ℕ → ℕ → ℕ → Row → Type 0
 Placed clock count i r = misplaced clock count i r ≡ false
 
-placed-none : (clock count : ℕ) (rows : List Row) → ((k : ℕ) → k < length rows → Placed clock count k (getD rows k noRow))
+pub placed-none : (clock count : ℕ) (rows : List Row) → ((k : ℕ) → k < length rows → Placed clock count k (getD rows k noRow))
     → first (misplaced clock count) rows ≡ none
 placed-none clock count rows f = all-none (misplaced clock count) rows 0 (λ k h. rw (zero-add k) (f k h))
 
-none-placed : (clock count : ℕ) (rows : List Row) → first (misplaced clock count) rows ≡ none
+pub none-placed : (clock count : ℕ) (rows : List Row) → first (misplaced clock count) rows ≡ none
     → (k : ℕ) → k < length rows → Placed clock count k (getD rows k noRow)
 none-placed clock count rows h k lt = rw (zero-add k) at (none-at (misplaced clock count) rows 0 k h lt)
 

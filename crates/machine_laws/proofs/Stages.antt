@@ -14,7 +14,7 @@ use Rattle.machine.proofs.Tests.{both, or-false-right, age-now, age-next}
 
 module _ (clock c k e : ℕ) where
   -- what a stage that fits says
-  guest-says : (a u : ℕ) → stageFits clock c k e (Stage.Guest a u) ≡ true → (a ≤ clock) × (u ≤ c) × (age clock a ≤ e)
+  pub guest-says : (a u : ℕ) → stageFits clock c k e (Stage.Guest a u) ≡ true → (a ≤ clock) × (u ≤ c) × (age clock a ≤ e)
   unfolding stageFits
   guest-says a u h =
       let x = both (leb a clock) ((leb u c && leb (age clock a) e) && true) h in
@@ -22,7 +22,7 @@ module _ (clock c k e : ℕ) where
       let z = both (leb u c) (leb (age clock a) e) (y .0) in
       (leb-true a clock (x .0), leb-true u c (z .0), leb-true (age clock a) e (z .1))
 
-  hyper-says : (a l : ℕ) → stageFits clock c k e (Stage.Hyper a l) ≡ true → (a ≤ clock) × (1 ≤ l) × (l ≤ k) × (e < age clock a)
+  pub hyper-says : (a l : ℕ) → stageFits clock c k e (Stage.Hyper a l) ≡ true → (a ≤ clock) × (1 ≤ l) × (l ≤ k) × (e < age clock a)
   unfolding stageFits
   hyper-says a l h =
       let x = both (leb a clock) (leb 1 l && (leb l k && ltb e (age clock a))) h in
@@ -30,7 +30,7 @@ module _ (clock c k e : ℕ) where
       let z = both (leb l k) (ltb e (age clock a)) (y .1) in
       (leb-true a clock (x .0), leb-true 1 l (y .0), leb-true l k (z .0), ltb-true e (age clock a) (z .1))
 
-  closed-says : (a : ℕ) → stageFits clock c k e (Stage.Closed a) ≡ true → a ≤ clock
+  pub closed-says : (a : ℕ) → stageFits clock c k e (Stage.Closed a) ≡ true → a ≤ clock
   unfolding stageFits
   closed-says a h = leb-true a clock (both (leb a clock) true h .0)
 
@@ -38,15 +38,15 @@ module _ (clock c k e : ℕ) where
   unfolding stageFits
   never-fits = refl
 
-  guest-fits : (a u : ℕ) → a ≤ clock → u ≤ c → age clock a ≤ e → stageFits clock c k e (Stage.Guest a u) ≡ true
+  pub guest-fits : (a u : ℕ) → a ≤ clock → u ≤ c → age clock a ≤ e → stageFits clock c k e (Stage.Guest a u) ≡ true
   unfolding stageFits
   guest-fits a u p q r = rw (le-leb a clock p, le-leb u c q, le-leb (age clock a) e r)
 
-  hyper-fits : (a l : ℕ) → a ≤ clock → 1 ≤ l → l ≤ k → e < age clock a → stageFits clock c k e (Stage.Hyper a l) ≡ true
+  pub hyper-fits : (a l : ℕ) → a ≤ clock → 1 ≤ l → l ≤ k → e < age clock a → stageFits clock c k e (Stage.Hyper a l) ≡ true
   unfolding stageFits
   hyper-fits a l p q r t = rw (le-leb a clock p, le-leb 1 l q, le-leb l k r, lt-ltb e (age clock a) t)
 
-  closed-fits : (a : ℕ) → a ≤ clock → stageFits clock c k e (Stage.Closed a) ≡ true
+  pub closed-fits : (a : ℕ) → a ≤ clock → stageFits clock c k e (Stage.Closed a) ≡ true
   unfolding stageFits
   closed-fits a p = rw (le-leb a clock p)
 

@@ -19,13 +19,13 @@ determined m mask signal early r s p q = p ∙ sym q
 
 module _ (m : Machine) (mask signal : ℕ) (early : Bool) where
   -- the machine and the answer of a tick that is taken, whoever ran
-  record IsTaken (s : Stepped) : Type 0 where
+  pub record IsTaken (s : Stepped) : Type 0 where
     pub says : Taken
     pub answers : s .answer ≡ Answer.Taken says
     pub ticks : s .machine .clock ≡ m .clock + 1
     pub rows : s .machine .count ≡ m .count
 
-  is-taken : IsTaken (taken m mask signal early)
+  pub is-taken : IsTaken (taken m mask signal early)
   unfolding taken
   is-taken = go (chosen (turned (m .clock) mask (m .rows)))
     where
