@@ -14,6 +14,7 @@ use Rattle.equations.specs.declared.Answer.the-variants.{Accepted}
 use Rattle.machine.specs.declared.Taken.{Taken}
 use Rattle.machine.specs.declared.Ran.{Ran}
 use Rattle.machine.specs.declared.Mark.{Mark}
+use Rattle.machine.specs.declared.Answer.{Answer}
 use Rattle.machine.specs.Rows.{age, at, firstFrom, mapFrom, every, howMany}
 use Rattle.machine.specs.WellFormed.{fieldsFit, stageFits, isBlank, wellFormed}
 use Rattle.machine.specs.TickRule.{verdict, chosen, turned, taken, stepOf}
@@ -34,7 +35,7 @@ tick mask signal = record { mask = mask; signal = signal; early = false }
 abbrev arrival : Tick
 arrival = tick 1 0
 
-abbrev quiet : Tick
+abbrev pub quiet : Tick
 quiet = tick 0 0
 
 abbrev signal : Tick
@@ -81,6 +82,8 @@ pub record Right : Type 0 where
   pub silent-job : Job 1 (takenOf silent) 0 0
   pub silent-6 : said silent 6 ≡ record { ran = Ran.Hypertask 1; mark = Mark.Nothing; ignored = true }
   pub silent-7 : said silent 7 ≡ record { ran = Ran.Hypertask 1; mark = Mark.Output; ignored = false }
+  pub silent-last : stepOf (run (startOf p3 .machine) (take 7 silent) .machine) 0 0 false .answer
+      ≡ Answer.Taken (record { ran = Ran.Hypertask 1; mark = Mark.Output; ignored = false })
   pub silent-output : hypertaskOutput (takenOf silent) 0 0 7 ≡ true
   pub silent-outputs : (guestOutputs (takenOf silent) 0 0 ≡ 0) × (hypertaskOutputs (takenOf silent) 0 0 ≡ 1)
   pub silent-totals : totals silent ≡ 1 ∷ 0 ∷ 1 ∷ 0 ∷ []
@@ -114,6 +117,7 @@ right =
       silent-job = record { row = lit< tt; taken = lit< tt; came = refl };
       silent-6 = refl;
       silent-7 = refl;
+      silent-last = refl;
       silent-output = refl;
       silent-outputs = (refl, refl);
       silent-totals = refl;

@@ -22,10 +22,11 @@ use Rattle.start.specs.Start.{rowOf, rowsOf, startAnswer, startOf}
 use Rattle.demands.specs.Runs.{Tick, TakenTick, Run, run}
 use Rattle.demands.specs.Jobs.{Job, brought, latest, isAt, bookedTo, guestGives, hypertaskGives, one, numberOf}
 use Rattle.demands.specs.Jobs.{guestOutputs, hypertaskOutputs, isOpen, jobsArrived, guestOutputsOf, hypertaskOutputsOf, jobsOpen}
+use Rattle.demands.specs.Booking.{arrivalOf}
 use Rattle.demands.proofs.Sums.{sum-zero, sum-none, sum-add, sum-swap}
 use Rattle.demands.proofs.Ticks.{stageAt}
 use Rattle.demands.proofs.TakenTicks.{latest-is}
-use Rattle.demands.proofs.RowJobs.{arrivalOf, openArrival, same-eqb, is-at, shift, Booked}
+use Rattle.demands.proofs.RowJobs.{openArrival, same-eqb, is-at, shift, Booked}
 use Rattle.demands.proofs.Accepted.{schedulable}
 use Rattle.demands.proofs.Demand3.{started, run-from}
 

@@ -11,6 +11,8 @@ pub mod TakenTicks
 pub mod RowJobs
 pub mod Runs
 pub mod Demand3
+pub mod Booking
+pub mod OneOutput
 pub mod Example
 pub mod WellFormed
 pub mod Counts

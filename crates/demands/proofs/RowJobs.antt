@@ -17,6 +17,7 @@ use Rattle.machine.specs.Rows.{age, inMask, Found, at, none}
 use Rattle.machine.specs.TickRule.{ranFrom, nobodyRan}
 use Rattle.machine.proofs.Tests.{both}
 use Rattle.demands.specs.Runs.{TakenTick}
+use Rattle.demands.specs.Booking.{arrivalOf}
 use Rattle.demands.specs.Jobs.{brought, latest, isAt, bookedTo, guestGives, hypertaskGives, guestOutput, hypertaskOutput, one, guestOutputs}
 use Rattle.demands.specs.Jobs.{hypertaskOutputs}
 use Rattle.demands.proofs.Rows.{Fits, Okay, Okay°, Free, turnedStage, clash}
@@ -25,13 +26,7 @@ use Rattle.demands.proofs.TakenTicks.{brought-other, latest-now, latest
 use Rattle.demands.proofs.TakenTicks.{guest-output-before, hypertask-output-before, guest-output-now, hypertask-output-now, guest-outputs-more}
 use Rattle.demands.proofs.TakenTicks.{hypertask-outputs-more}
 
--- the arrival that a stage holds, and the same where its job has no output yet
-abbrev pub arrivalOf : Stage → Found
-arrivalOf Stage.Never = none
-arrivalOf (Stage.Guest a u) = at a
-arrivalOf (Stage.Hyper a l) = at a
-arrivalOf (Stage.Closed a) = at a
-
+-- the arrival that a stage carries, where its job has no output yet
 abbrev pub openArrival : Stage → Found
 openArrival Stage.Never = none
 openArrival (Stage.Guest a u) = at a

@@ -2,7 +2,7 @@
 -- row of task i + 1 is row i; a job is a row and the number of the taken tick that brought it. Assumes nothing.
 use Prim.Native.Nat.{ℕ, zero, suc, _+_, _<_}
 use mathlib.Core.Path.{_≡_}
-use mathlib.Core.Bool.{Bool, true, false, cond, _&&_}
+use mathlib.Core.Bool.{Bool, true, false, cond, _&&_, _||_}
 use mathlib.Core.List.{List}
 use lib.Dec.{eqb}
 use lib.ListN.{length, getD}
@@ -72,6 +72,9 @@ guestOutput ticks i n x = guestGives ticks i x && bookedTo ticks i n x
 
 abbrev pub hypertaskOutput : List TakenTick → ℕ → ℕ → ℕ → Bool
 hypertaskOutput ticks i n x = hypertaskGives ticks i x && bookedTo ticks i n x
+
+abbrev pub output : List TakenTick → ℕ → ℕ → ℕ → Bool
+output ticks i n x = guestOutput ticks i n x || hypertaskOutput ticks i n x
 
 -- how many of the numbers below n have p
 abbrev pub one : Bool → ℕ
