@@ -218,7 +218,8 @@ module _ (s : List ℕ) (m : ℕ) (ok : startAnswer s ≡ Accepted m) (before : 
       })
 
 -- For every table that the start accepts, every run, every tick of it that is taken and the row that its answer names.
-pub job-that-ran : (s : List ℕ) (m : ℕ) → startAnswer s ≡ Accepted m → (before : List Tick) (t : Tick) (later : List Tick) (said : Taken) (i : ℕ) →
+pub job-that-ran : (s : List ℕ) (m : ℕ) → startAnswer s ≡ Accepted m → (before : List Tick) (t : Tick) (later : List Tick) (said : Taken)
+    (i : ℕ) →
     stepOf (run (startOf s .machine) before .machine) (t .mask) (t .signal) (t .early) .answer ≡ Answer.Taken said → isRowOf i (said .ran) ≡ true →
     JobThatRan (run (startOf s .machine) before .machine) t said (run (startOf s .machine) (before ++ t ∷ later) .taken) i
     (length (run (startOf s .machine) before .taken))
