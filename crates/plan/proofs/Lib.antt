@@ -13,3 +13,4 @@ pub mod Plans
 pub mod RoundTrips
 pub mod Determined
 pub mod Cases
+pub mod Limits

@@ -129,6 +129,7 @@ write-then-read t s lent after n w =
     record {
       accepted = ap readRefusal f ∙ written-accepted t s (length lent) (e .0);
       rows = ap (partOf rowsKind) f ∙ written-rows t s (length lent) (e .0);
+      numbers = λ small. ap (λ (x : List ℕ). tableOf (partOf rowsKind x)) f ∙ written-table t s (length lent) (e .0) small;
       script-part = ap (partOf scriptKind) f ∙ written-script t s (length lent) (e .0);
     }
   where

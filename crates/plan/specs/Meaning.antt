@@ -6,7 +6,7 @@ use mathlib.Core.List.{List, []}
 use mathlib.Core.Option.{none}
 use Prim.Native.Nat.{ℕ, _≤_, _<_}
 use lib.ListN.{length, getD}
-use Rattle.plan.specs.Numbers.{tableBytes}
+use Rattle.plan.specs.Numbers.{tableBytes, tableOf, AllBelow}
 use Rattle.plan.specs.PlanFile.{Section, section, fileOf, sectionsOf, bodyOf, rowsKind, scriptKind, mostSections, wrongKind, wrongSize}
 use Rattle.plan.specs.PlanFile.{firstWrongRecord, readRefusal, partOf}
 
@@ -33,8 +33,9 @@ pub record OneMeaning (f : List ℕ) : Type 0 where
   pub file : fileOf (sectionsOf f) ≡ f
   pub only : (ss : List Section) → Kinds32 ss → fileOf ss ≡ f → ss ≡ sectionsOf f
 
--- a file that is accepted and whose parts are the rows of a table and a script
+-- a file that is accepted and whose parts are the rows of a table and a script; read as numbers of 32 bits, the rows are the table itself
 pub record ReadsBack (table script f : List ℕ) : Type 0 where
   pub accepted : readRefusal f ≡ none
   pub rows : partOf rowsKind f ≡ tableBytes table
+  pub numbers : AllBelow 4294967296 table → tableOf (partOf rowsKind f) ≡ table
   pub script-part : partOf scriptKind f ≡ script
