@@ -12,7 +12,7 @@ ghost use mathlib.Core.Path.{_≡_};
 ghost use Prim.Native.Nat.{_*_, _≤_};
 ghost use lib.ListN.{length};
 ghost use Rattle.equations.specs.Table.{rows, Sound};
-ghost use Rattle.equations.specs.Analysis.{solved, analysis, resultsBy, resultsAfter};
+ghost use Rattle.equations.specs.Analysis.{solved, resultsBy, Analyses};
 
 // R, E and G of each task of a sound table into the lent results, or the first refusal of 5, 6 and 7.
 fn solve(table: &[u32], lent: &mut [u32]) -> Answer
@@ -37,8 +37,7 @@ fn solve(table: &[u32], lent: &mut [u32]) -> Answer
 // The analysis of a table. Accepted: R, E and G of each task stand at the front of the lent results, and nothing past them changed.
 // Refused: nothing changed.
 pub fn analyse(table: &[u32], results: &mut [u32]) -> Answer
-    ensures answers { λ r. ⌜ r ≡ analysis (now (table .entry)) (length (now (results .entry))) ⌝ }
-    ensures leaves { λ r. ⌜ now (results .exit) ≡ resultsAfter (now (table .entry)) (now (results .entry)) ⌝ }
+    ensures { λ r. ⌜ Analyses (now (table .entry)) (now (results .entry)) r (now (results .exit)) ⌝ }
 {
     if let Checked::Stopped(r) = checks::check(table) {
         return Answer::Refused(r);

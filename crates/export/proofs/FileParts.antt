@@ -11,36 +11,68 @@ use borrow.Author.Tests.{lt-ltb, le-ltb, eq-eqb}
 use lib.Dec.{ltb}
 use lib.ListN.{length, getD, set, take, drop}
 use lib.Seq.{sets, take-all}
+use Rattle.refusals.specs.Refusals.{numberOf, placeOf}
 use Rattle.refusals.specs.declared.Refusal.{Refusal}
 use Rattle.plan.specs.Numbers.{tableOf, AllBelow}
 use Rattle.plan.specs.Refuse.{answerOf}
 use Rattle.plan.specs.PlanFile.{sectionsOf, bodyOf, rowsKind, readRefusal, partIf, partOf}
 use Rattle.plan.specs.Bodies.{takenOf, afterTaken}
-use Rattle.plan.specs.Writer.{writingOf}
+use Rattle.plan.specs.Writer.{planFile, writeRefusal, writingOf, Writes}
 use Rattle.plan.specs.declared.Answer.{Answer}
 use Rattle.plan.specs.declared.Writing.{Writing}
 use Rattle.plan.proofs.Values.{numbers-length}
 use Rattle.plan.proofs.Puts.{script-step, sets-front}
 use Rattle.plan.proofs.RoundTrips.{accepted-rows}
-use Rattle.export.specs.Files.{toFront}
+use Rattle.export.specs.Files.{refusalNumber, refusalPlace, toFront, ChecksFile, WritesFile}
 
 -- ## What is said
 
-pub accepts : (o : Option Refusal) → Answer.Accepted ≡ answerOf o → o ≡ none
+accepts : (o : Option Refusal) → Answer.Accepted ≡ answerOf o → o ≡ none
 accepts none e = refl
 accepts (some r) e = let z : _≡_ {A = ℕ} 0 1 = cc in absurd (lt-irrefl 0 (omega arith))
 
-pub refuses : (o : Option Refusal) (r : Refusal) → Answer.Refused r ≡ answerOf o → o ≡ some r
+refuses : (o : Option Refusal) (r : Refusal) → Answer.Refused r ≡ answerOf o → o ≡ some r
 refuses none r e = let z : _≡_ {A = ℕ} 0 1 = cc in absurd (lt-irrefl 0 (omega arith))
 refuses (some q) r e = cc
 
-pub writes : (o : Option Refusal) (m n : ℕ) → Writing.Written n ≡ writingOf o m → (o ≡ none) × (n ≡ m)
+pub check-accepted : (file : List ℕ) (x : Answer) → x ≡ answerOf (readRefusal file) → x ≡ Answer.Accepted → ChecksFile file 0 0
+check-accepted file x e a =
+    let n = sym (accepts (readRefusal file) (sym a ∙ e)) in
+    record { answers = ap refusalNumber n; places = ap (λ (o : Option Refusal). refusalPlace o 0) n }
+
+pub check-refused : (file : List ℕ) (x : Answer) (r : Refusal) (n i : ℕ) → x ≡ answerOf (readRefusal file) → x ≡ Answer.Refused r
+    → n ≡ numberOf r
+    → i ≡ placeOf r
+    → ChecksFile file n i
+check-refused file x r n i e a hn hi =
+    let s = sym (refuses (readRefusal file) r (sym a ∙ e)) in
+    record { answers = hn ∙ ap refusalNumber s; places = hi ∙ ap (λ (o : Option Refusal). refusalPlace o 0) s }
+
+writes : (o : Option Refusal) (m n : ℕ) → Writing.Written n ≡ writingOf o m → (o ≡ none) × (n ≡ m)
 writes none m n e = (refl, cc)
 writes (some r) m n e = let z : _≡_ {A = ℕ} 0 1 = cc in absurd (lt-irrefl 0 (omega arith))
 
-pub writes-not : (o : Option Refusal) (m : ℕ) (r : Refusal) → Writing.Refused r ≡ writingOf o m → o ≡ some r
+writes-not : (o : Option Refusal) (m : ℕ) (r : Refusal) → Writing.Refused r ≡ writingOf o m → o ≡ some r
 writes-not none m r e = let z : _≡_ {A = ℕ} 0 1 = cc in absurd (lt-irrefl 0 (omega arith))
 writes-not (some q) m r e = cc
+
+module _ (table script lent after : List ℕ) (x : Writing) (w : Writes table script lent x after) where
+  pub write-written : (n : ℕ) → x ≡ Writing.Written n → WritesFile table script lent 0 n after
+  write-written n a =
+      let m = length (planFile table script) in
+      let e = writes (writeRefusal table script (length lent)) m n (sym a ∙ w .answers) in
+      record {
+        answers = ap refusalNumber (sym (e .0));
+        places = e .1 ∙ ap (λ (o : Option Refusal). refusalPlace o m) (sym (e .0));
+        leaves = w .leaves;
+      }
+
+  pub write-refused : (r : Refusal) (n i : ℕ) → x ≡ Writing.Refused r → n ≡ numberOf r → i ≡ placeOf r
+      → WritesFile table script lent n i after
+  write-refused r n i a hn hi =
+      let m = length (planFile table script) in
+      let s = sym (writes-not (writeRefusal table script (length lent)) m r (sym a ∙ w .answers)) in
+      record { answers = hn ∙ ap refusalNumber s; places = hi ∙ ap (λ (o : Option Refusal). refusalPlace o m) s; leaves = w .leaves }
 
 -- ## Parts to the front
 

@@ -3,3 +3,4 @@ pub mod AnswerBytes
 pub mod Ends
 pub mod FileParts
 pub mod Texts
+pub mod Determined

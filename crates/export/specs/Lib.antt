@@ -2,4 +2,5 @@ pub mod Files
 pub mod Numbers
 pub mod Start
 pub mod State
+pub mod Texts
 pub mod Ticks

@@ -1,11 +1,12 @@
 -- Ticks one after the other, and their answers as 12 bytes each: the clock before the tick (4 bytes, modulo 2^32), the refusal's place (4 bytes),
 -- who ran (0 nobody, 1 guest, 2 hypertask, 3 refused), the task or the refusal's number, the mark (0 none, 1 output, 2 budget used up), ignored 0 or 1.
 -- Assumes nothing.
+use mathlib.Core.Path.{_≡_}
 use mathlib.Core.Bool.{Bool, true, false, cond}
 use mathlib.Core.List.{List, [], _∷_, _++_}
 use Prim.Native.Nat.{ℕ, zero, suc, _*_, _/_, _%_, min}
 use lib.Dec.{eqb}
-use lib.ListN.{drop}
+use lib.ListN.{length, drop}
 use Rattle.least.specs.Lists.{flat}
 use Rattle.refusals.specs.Refusals.{numberOf, placeOf}
 use Rattle.plan.specs.Numbers.{bytesOf}
@@ -74,3 +75,9 @@ stateAfter state records n = cond (eqb n 0) state (stateOf (machineAfter (machin
 
 abbrev pub answersAfter : List ℕ → List ℕ → List ℕ → ℕ → List ℕ
 answersAfter state records answers n = flat (answerTo (machineIn state) records) n ++ drop (12 * n) answers
+
+-- what `tollsalmon_ticks` promises
+pub record TakesTicks (state records lent : List ℕ) (taken : ℕ) (stateLeft answersLeft : List ℕ) : Type 0 where
+  pub answers : taken ≡ ticksTaken state (length records) (length lent)
+  pub leaves : stateLeft ≡ stateAfter state records (ticksTaken state (length records) (length lent))
+  pub writes : answersLeft ≡ answersAfter state records lent (ticksTaken state (length records) (length lent))

@@ -27,7 +27,7 @@ returns c =
     let a = c .before .before .before .before .before .before in
     let s = now (a .args .table) in
     let e = refused-1-to-3 s (length (now (a .args .results))) _ (sym (c .before .before .before .check .ensures .0) ∙ c .before .r .given .1) in
-    (sym e, results-by s (now (a .args .results)) _ e)
+    record { answers = sym e; leaves = results-by s (now (a .args .results)) _ e }
 
 enum-told : tie.Need-enum-told
 enum-told c = search needs
@@ -46,7 +46,7 @@ returns-2 c =
     let s = now (a .args .table) in
     let m = length (now (a .args .results)) in
     let e = refused-4 s m _ (table-passes (c .before)) (results-short s m (c .if1 .taken)) in
-    (sym e, results-by s (now (a .args .results)) _ e)
+    record { answers = sym e; leaves = results-by s (now (a .args .results)) _ e }
 
 -- src/lib.rt:50:5
 solve-requires : tie.Need-solve-requires
@@ -64,7 +64,7 @@ returns-3 c =
     let m = length (now (a .args .results)) in
     let e : analysis s m ≡ c .before .before .solve .result = entered s m (table-passes (c .before .before .before .before .before))
     (results-fit s m (omega arith)) ∙ sym (c .before .before .solve .ensures .0) in
-    (sym e, c .before .before .solve .ensures .1 ∙ results-by s (now (a .args .results)) _ e)
+    record { answers = sym e; leaves = c .before .before .solve .ensures .1 ∙ results-by s (now (a .args .results)) _ e }
 
 pub analyse-spec : {M : Type 1} → statement M
 analyse-spec =

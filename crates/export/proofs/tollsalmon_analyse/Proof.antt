@@ -24,7 +24,11 @@ same-length c = search needs
 returns : tie.Need-returns
 returns c =
     let r = c .before .before .before .before .analyse in
-    (c .number-in .ensures ∙ ap numberIn (r .ensures .0), (c .before .place-in .ensures ∙ ap placeIn (r .ensures .0), r .ensures .1))
+    record {
+      answers = c .number-in .ensures ∙ ap numberIn (r .ensures .answers);
+      places = c .before .place-in .ensures ∙ ap placeIn (r .ensures .answers);
+      leaves = r .ensures .leaves;
+    }
 
 pub tollsalmon-analyse-spec : {M : Type 1} → statement M
 tollsalmon-analyse-spec =

@@ -1,10 +1,5 @@
-use mathlib.Core.Path.{sym, ap, _∙_}
-use mathlib.Core.Option.{Option}
 use denote.Ref.{now}
-use Rattle.refusals.specs.declared.Refusal.{Refusal}
-use Rattle.plan.specs.PlanFile.{readRefusal}
-use Rattle.export.specs.Files.{refusalNumber, refusalPlace}
-use Rattle.export.proofs.FileParts.{accepts, refuses}
+use Rattle.export.proofs.FileParts.{check-accepted, check-refused}
 use borrow.Author.Needs.{needs}
 use Rattle.export.proofs.tollsalmon_check.Statement.{statement}
 use Rattle.export.proofs.tollsalmon_check.Tie as tie
@@ -31,17 +26,14 @@ number-requires c κs = search needs
 
 -- src/lib.rt:74:1
 returns : tie.Need-returns
-returns c =
-    let o = readRefusal (now (c .before .before .before .before .args .file)) in
-    let e = accepts o (sym (c .enum-told .given .1) ∙ c .before .before .check .ensures) in
-    (ap refusalNumber (sym e), ap (λ (x : Option Refusal). refusalPlace x 0) (sym e))
+returns c = check-accepted (now (c .before .before .before .before .args .file)) _ (c .before .before .check .ensures) (c .enum-told .given .1)
 
 -- src/lib.rt:74:1
 returns-2 : tie.Need-returns-2
 returns-2 c =
-    let o = readRefusal (now (c .before .before .before .before .before .before .before .args .file)) in
-    let e = refuses o _ (sym (c .before .before .before .r .given .1) ∙ c .before .before .before .before .before .check .ensures) in
-    (c .number .ensures ∙ ap refusalNumber (sym e), c .before .place .ensures ∙ ap (λ (x : Option Refusal). refusalPlace x 0) (sym e))
+    let a = c .before .before .before .before .before .before .before .args in
+    let x = c .before .before .before .before .before .check in
+    check-refused (now (a .file)) _ _ _ _ (x .ensures) (c .before .before .before .r .given .1) (c .number .ensures) (c .before .place .ensures)
 
 pub tollsalmon-check-spec : {M : Type 1} → statement M
 tollsalmon-check-spec =

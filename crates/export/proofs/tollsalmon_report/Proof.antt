@@ -1,5 +1,5 @@
-use mathlib.Core.Path.{sym, ap, _∙_}
-use Rattle.export.proofs.Texts.{lengthSaid, length-said, text-left}
+use mathlib.Core.Path.{ap}
+use Rattle.export.proofs.Texts.{lengthSaid, text-printed}
 use borrow.Author.Needs.{needs}
 use Rattle.export.proofs.tollsalmon_report.Statement.{statement}
 use Rattle.export.proofs.tollsalmon_report.Tie as tie
@@ -27,7 +27,7 @@ same-length c = search needs
 returns : tie.Need-returns
 returns c =
     let p = c .before .before .before .before .before .report .ensures in
-    (sym (ap lengthSaid (c .before .n .given .1)) ∙ length-said _ _ _ _ p, text-left _ _ _ _ p)
+    text-printed _ _ _ _ _ p (ap lengthSaid (c .before .n .given .1))
 
 -- src/lib.rt:149:1
 same-length-2 : tie.Need-same-length-2
@@ -37,7 +37,7 @@ same-length-2 c = search needs
 returns-2 : tie.Need-returns-2
 returns-2 c =
     let p = c .before .before .before .before .before .report .ensures in
-    (sym (ap lengthSaid (c .before .n2 .given .1)) ∙ length-said _ _ _ _ p, text-left _ _ _ _ p)
+    text-printed _ _ _ _ _ p (ap lengthSaid (c .before .n2 .given .1))
 
 pub tollsalmon-report-spec : {M : Type 1} → statement M
 tollsalmon-report-spec =

@@ -16,7 +16,7 @@ returns : tie.Need-returns
 returns c =
     let a = c .before .before .before .before .args in
     let p = c .before .script-of in
-    (ap length (p .ensures), part-short (partOf scriptKind (now (a .file))) _ (now (a .script)) (p .ensures) (c .if1 .taken))
+    record { answers = ap length (p .ensures); leaves = part-short (partOf scriptKind (now (a .file))) _ (now (a .script)) (p .ensures) (c .if1 .taken) }
 
 -- src/lib.rt:112:5
 copy-requires : tie.Need-copy-requires
@@ -33,7 +33,10 @@ returns-2 c =
     let p = c .before .before .before .before .before .script-of in
     let fits = c .before .before .before .before .if1 .left in
     let copied = c .before .before .copy .ensures in
-    (ap length (p .ensures), part-fits (partOf scriptKind (now (a .file))) _ (now (a .script)) _ (p .ensures) fits copied)
+    record {
+      answers = ap length (p .ensures);
+      leaves = part-fits (partOf scriptKind (now (a .file))) _ (now (a .script)) _ (p .ensures) fits copied;
+    }
 
 pub tollsalmon-script-spec : {M : Type 1} → statement M
 tollsalmon-script-spec =

@@ -26,10 +26,11 @@ returns c =
     let part = partOf rowsKind f in
     let r = c .before .before .before .before .rows-of in
     let bytes = c .before .before .before .before .before .before .shared-slice-known .given in
-    let fours = rows-fours f (λ j h. omega (arith, bytes j)) in (
-      table-length part _ (r .ensures),
-      table-front part _ (now (a .table)) _ (r .ensures) fours (c .before .before .table-of .ensures .leaves),
-    )
+    let fours = rows-fours f (λ j h. omega (arith, bytes j)) in
+    record {
+      answers = table-length part _ (r .ensures);
+      leaves = table-front part _ (now (a .table)) _ (r .ensures) fours (c .before .before .table-of .ensures .leaves);
+    }
 
 pub tollsalmon-table-spec : {M : Type 1} → statement M
 tollsalmon-table-spec = tie.close (tie.spec rows-of-requires table-of-requires same-length returns)

@@ -1,6 +1,5 @@
 use denote.Ref.{now}
 use native.Mathlib.Omega.{arith}
-use lib.ListN.{length}
 use borrow.Author.Tests.{not-true, not-false}
 use Rattle.export.proofs.States.{can-read}
 use Rattle.export.proofs.Ends.{read-says, read-machine, ticks-unread, ticks-none, ticks-taken}
@@ -25,7 +24,7 @@ returns : tie.Need-returns
 returns c =
     let a = c .before .before .before .before .before .before .before .before .args in
     let s = now (a .state) in
-    ticks-unread s (now (a .records)) (now (a .answers)) (length (now (a .records))) (length (now (a .answers)))
+    ticks-unread s (now (a .records)) (now (a .answers))
     (read-says s _ _ (c .before .before .before .read .ensures) (not-true _ (c .if1 .taken)))
 
 -- src/lib.rt:65:9
@@ -37,7 +36,7 @@ returns-2 : tie.Need-returns-2
 returns-2 c =
     let a = c .before .before .before .before .before .before .before .before .before .args in
     let s = now (a .state) in
-    ticks-none s (now (a .records)) (now (a .answers)) (length (now (a .records))) (length (now (a .answers))) _
+    ticks-none s (now (a .records)) (now (a .answers)) _
     (read-says s _ _ (c .before .before .before .before .read .ensures) (not-false _ (c .before .if1 .left)))
     (c .before .before .before .how-many .ensures) (c .if2 .taken)
 
@@ -70,7 +69,7 @@ returns-3 c =
     let d = x .before .before .before .before .read in
     let h = read-says s (d .result) _ (d .ensures) (not-false _ (x .before .if1 .left)) in
     let r = c .before .before .before .before .before .before .run in
-    ticks-taken s (now (a .records)) (now (a .answers)) _ _ (length (now (a .records))) (length (now (a .answers))) _ (d .result .machine) (r .result) h
+    ticks-taken s (now (a .records)) (now (a .answers)) _ _ _ (d .result .machine) (r .result) h
     (x .before .before .before .how-many .ensures) (x .if2 .left) (read-machine s (d .result) (d .ensures) h)
     (r .ensures .0) (c .before .before .put .ensures) (r .ensures .1)
 

@@ -1,11 +1,5 @@
-use mathlib.Core.Path.{sym, ap, _∙_}
-use mathlib.Core.Option.{Option}
 use denote.Ref.{now}
-use lib.ListN.{length}
-use Rattle.refusals.specs.declared.Refusal.{Refusal}
-use Rattle.plan.specs.Writer.{planFile, writeRefusal}
-use Rattle.export.specs.Files.{refusalNumber, refusalPlace}
-use Rattle.export.proofs.FileParts.{writes, writes-not}
+use Rattle.export.proofs.FileParts.{write-written, write-refused}
 use borrow.Author.Needs.{needs}
 use Rattle.export.proofs.tollsalmon_write.Statement.{statement}
 use Rattle.export.proofs.tollsalmon_write.Tie as tie
@@ -38,11 +32,8 @@ same-length c = search needs
 returns : tie.Need-returns
 returns c =
     let a = c .before .before .before .before .before .before .before .before .before .before .args in
-    let o = writeRefusal (now (a .table)) (now (a .script)) (length (now (a .output))) in
-    let n = length (planFile (now (a .table)) (now (a .script))) in
     let w = c .before .before .before .before .before .write .ensures in
-    let e = writes o n _ (sym (c .before .n .given .1) ∙ w .answers) in
-    (ap refusalNumber (sym (e .0)), (e .1 ∙ ap (λ (x : Option Refusal). refusalPlace x n) (sym (e .0)), w .leaves))
+    write-written (now (a .table)) (now (a .script)) (now (a .output)) _ _ w _ (c .before .n .given .1)
 
 -- src/lib.rt:117:1
 same-length-2 : tie.Need-same-length-2
@@ -52,11 +43,9 @@ same-length-2 c = search needs
 returns-2 : tie.Need-returns-2
 returns-2 c =
     let a = c .before .before .before .before .before .before .before .before .before .before .before .before .args in
-    let o = writeRefusal (now (a .table)) (now (a .script)) (length (now (a .output))) in
-    let n = length (planFile (now (a .table)) (now (a .script))) in
     let w = c .before .before .before .before .before .before .before .write .ensures in
-    let e = writes-not o n _ (sym (c .before .before .before .r .given .1) ∙ w .answers) in
-    (c .number .ensures ∙ ap refusalNumber (sym e), (c .before .place .ensures ∙ ap (λ (x : Option Refusal). refusalPlace x n) (sym e), w .leaves))
+    write-refused (now (a .table)) (now (a .script)) (now (a .output)) _ _ w _ _ _ (c .before .before .before .r .given .1)
+    (c .number .ensures) (c .before .place .ensures)
 
 pub tollsalmon-write-spec : {M : Type 1} → statement M
 tollsalmon-write-spec =

@@ -63,7 +63,7 @@ returns c =
     let a = c11 .put-accept .ensures in
     let few = tasks-few s (replicate 96 0) n refl (x .pre .0) in
     let l = row-lines s (replicate 96 0) n refl (x .pre .0) in
-    (rw (← l, ← c14 .analyse .ensures .1, ← x .pre .1) (put-then (put-then (a .0) (q .0)) (p .0)), omega (arith, p .1, q .1, a .1, few, x .pre .2))
+    (rw (← l, ← c14 .analyse .ensures .leaves, ← x .pre .1) (put-then (put-then (a .0) (q .0)) (p .0)), omega (arith, p .1, q .1, a .1, few, x .pre .2))
 
 pub put-accepted-spec : {M : Type 1} → statement M
 put-accepted-spec =

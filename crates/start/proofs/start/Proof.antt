@@ -44,15 +44,15 @@ rows-of-requires c κs =
     let a = c .before .before .before .before .before .before .before .before in
     let s = now (a .args .table) in
     let r = c .before .before .before .before .before .analyse in
-    let e = sym (r .ensures .0) ∙ c .before .before .n .given .1 in
-    (rw (r .ensures .1) (accepted-analysed s _ _ refl e), analysed-tasks s _ _ e)
+    let e = sym (r .ensures .answers) ∙ c .before .before .n .given .1 in
+    (rw (r .ensures .leaves) (accepted-analysed s _ _ refl e), analysed-tasks s _ _ e)
 
 -- src/lib.rt:63:1
 returns : tie.Need-returns
 returns c =
     let s = now (c .before .before .before .before .before .before .before .before .args .table) in
     let r = c .before .before .before .before .before .analyse in
-    let e = sym (same-answer s (replicate 96 0) refl) ∙ sym (r .ensures .0) ∙ c .before .before .r .given .1 in
+    let e = sym (same-answer s (replicate 96 0) refl) ∙ sym (r .ensures .answers) ∙ c .before .before .r .given .1 in
     ap (λ (x : Row). record {
       machine = record { rows = replicate 32 x; count = 0; clock = 0 };
       answer =
@@ -65,7 +65,7 @@ returns-2 : tie.Need-returns-2
 returns-2 c =
     let s = now (c .before .before .before .before .before .before .before .before .before .args .table) in
     let r = c .before .before .before .before .before .before .analyse in
-    let e = sym (same-answer s (replicate 96 0) refl) ∙ sym (r .ensures .0) ∙ c .before .before .before .n .given .1 in
+    let e = sym (same-answer s (replicate 96 0) refl) ∙ sym (r .ensures .answers) ∙ c .before .before .before .n .given .1 in
     ap (λ (x : List Row). record {
       machine = record { rows = x; count = c .before .before .before .n .given .0 .0; clock = 0 };
       answer =
