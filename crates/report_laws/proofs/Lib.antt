@@ -1,1 +1,2 @@
 pub mod TooLong
+pub mod Texts
