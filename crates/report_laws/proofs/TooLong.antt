@@ -1,5 +1,5 @@
 -- "Input longer than 65,536 bytes is refused with 13 at place 65,537": what the program hands on of it is 65,537 bytes. Assumes nothing.
-use mathlib.Core.Path.{_≡_, refl}
+use mathlib.Core.Path.{_≡_}
 use mathlib.Core.List.{List}
 use Prim.Native.Nat.{ℕ}
 use lib.ListN.{length}
