@@ -149,7 +149,7 @@ pub one-low : (b : Bool) → one b ≤ 1
 one-low true = omega arith
 one-low false = omega arith
 
-number-low : (p : ℕ → Bool) (n : ℕ) → numberOf p n ≤ n
+pub number-low : (p : ℕ → Bool) (n : ℕ) → numberOf p n ≤ n
 unfolding sum
 number-low p zero = omega arith
 number-low p (suc n) = omega (arith, number-low p n, one-low (p n))

@@ -13,7 +13,7 @@ use Rattle.plan.specs.Numbers.{tableOf, AllBelow}
 use Rattle.plan.specs.Bodies.{tickAt, recordOf, takenOf, afterTaken, Takes}
 use Rattle.plan.specs.declared.Tick.{Tick}
 use Rattle.plan.specs.declared.Recorded.the-variants.{Record, Missing}
-use Rattle.plan.specs.PlanFile.{sectionAt, sectionsFrom, sectionsOf, bodyOf, readRefusal, partOf, rowsKind, scriptKind, entryAt, count}
+use Rattle.plan.specs.PlanFile.{sectionAt, sectionsFrom, sectionsOf, bodyOf, readRefusal, partOf, rowsKind, entryAt, count}
 use Rattle.plan.specs.declared.Taken.{Taken}
 use Rattle.plan.specs.declared.Taken.the-variants.{Numbers}
 use Rattle.plan.proofs.Tests.{or-inv}
@@ -22,7 +22,8 @@ use Rattle.plan.proofs.Values.{numbers-length}
 use Rattle.plan.proofs.Parts.{rows-shape}
 use Rattle.plan.proofs.Plans.{meaning-plan}
 
-body-length : (k : ℕ) (f : List ℕ) (n i : ℕ) → length (bodyOf k (sectionsFrom f i n)) ≤ length f
+-- no body is longer than its file
+pub body-length : (k : ℕ) (f : List ℕ) (n i : ℕ) → length (bodyOf k (sectionsFrom f i n)) ≤ length f
 unfolding bodyOf sectionsFrom
 body-length k f zero i = omega arith
 body-length k f (suc n) i = go (eqb (entryAt f i .kind) k) (body-length k f n (suc i))
@@ -33,11 +34,11 @@ body-length k f (suc n) i = go (eqb (entryAt f i .kind) k) (body-length k f n (s
     go false h = h
 
 module _ (f : List ℕ) (accepted : readRefusal f ≡ none) where
-  pub script-short : length (partOf scriptKind f) ≤ 65536
+  pub part-short : (k : ℕ) → length (partOf k f) ≤ 65536
   unfolding sectionsOf
-  script-short =
+  part-short k =
       let a = or-inv (ltb (length f) 4) (ltb 65536 (length f)) (passed f accepted .length-right) in
-      omega (arith, ap length (the-part f scriptKind accepted), body-length scriptKind f (count f) 0, ltb-false 65536 (length f) (a .1))
+      omega (arith, ap length (the-part f k accepted), body-length k f (count f) 0, ltb-false 65536 (length f) (a .1))
 
   module _ (bytes : AllBelow 256 f) where
     rows-fit : (length (partOf rowsKind f) ≤ 512) × (length (partOf rowsKind f) % 16 ≡ 0)

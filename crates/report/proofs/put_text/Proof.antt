@@ -1,11 +1,11 @@
-use Rattle.plan.specs.PlanFile.{readRefusal}
+use Rattle.plan.specs.PlanFile.{readRefusal, scriptKind}
 use mathlib.Core.Path.{sym, ap, _∙_}
 use native.Mathlib.Omega.{arith}
 use lib.ListN.{length}
 use lib.Seq.{length-take-le}
 use Rattle.plan.proofs.Tests.{answer-some, answer-none}
 use Rattle.report.specs.Report.{textOf}
-use Rattle.report.proofs.Plans.{rows-few, taken-rows, script-short}
+use Rattle.report.proofs.Plans.{rows-few, taken-rows, part-short}
 use borrow.Author.Needs.{needs}
 use Rattle.report.proofs.put_text.Statement.{statement}
 use Rattle.report.proofs.put_text.Tie as tie
@@ -89,7 +89,7 @@ put-table-requires c κs =
     let c12 = c9 .before .before .before in
     let f = c12 .args .file .now in
     let e = answer-none (readRefusal f) (sym (c7 .enum-told .given .1) ∙ c9 .check .ensures) in
-    omega (arith, ap length (c .script-of .ensures), script-short f e)
+    omega (arith, ap length (c .script-of .ensures), part-short f e scriptKind)
 
 -- src/lib.rt:57:1
 same-length-2 : tie.Need-same-length-2
