@@ -47,6 +47,7 @@ pub const ANALYSIS: &[Edit] = &[
     // Hypertask.
     edit("B left out", ".max().unwrap_or(0)", ".max().unwrap_or(0) * 0"),
     edit("B less 1", ".max().unwrap_or(0)", ".max().map_or(0, |k| k - 1)"),
+    edit("B less 2", ".max().unwrap_or(0)", ".max().map_or(0, |k| (k - 2).max(0))"),
     edit("B from the row itself on", "rows[i + 1..].iter()", "rows[i..].iter()"),
     edit("limit of t one too large", "PERIOD: i64 = 4_000_000", "PERIOD: i64 = 4_000_001"),
     edit("limit of t one too small", "PERIOD: i64 = 4_000_000", "PERIOD: i64 = 3_999_999"),
@@ -80,6 +81,7 @@ pub const ANALYSIS: &[Edit] = &[
     edit("limit of WE one too large", "let limit = rows[i].T;", "let limit = rows[i].T + 1;"),
     edit("limit of WE one too small", "let limit = rows[i].T;", "let limit = rows[i].T - 1;"),
     edit("K left out of WE", "rows[i].C + rows[i].K +", "rows[i].C +"),
+    edit("WE not looked at", "(WA(rows, E, i)?, WE(rows, E, i)?)", "(WA(rows, E, i)?, 0)"),
     edit("G is WA alone", "Some(WA.max(WE - (rows[i].T - E[i])))", "Some(WA.max(WE - WE))"),
     edit("G is WE alone", "Some(WA.max(WE -", "Some((WE -"),
     edit("place of 7 from 0", "refusal(7, i + 1)", "refusal(7, i)"),

@@ -9,6 +9,8 @@ pub mod broken_plan;
 pub mod broken_text;
 pub mod command;
 pub mod dice;
+pub mod job_runs;
+pub mod jobs;
 pub mod machine;
 pub mod machine_damages;
 pub mod machine_numbers;
@@ -24,6 +26,8 @@ pub mod text_plans;
 
 #[cfg(test)]
 mod cases;
+#[cfg(test)]
+mod job_cases;
 #[cfg(test)]
 mod machine_cases;
 #[cfg(test)]

@@ -45,7 +45,8 @@ pub fn start(table: &[u32]) -> (Machine, Answer) {
     }
 }
 
-fn fresh(table: &[u32], results: &[u32]) -> Machine {
+/// The machine of an accepted table with its results.
+pub fn fresh(table: &[u32], results: &[u32]) -> Machine {
     let mut machine = WITHOUT_ROWS;
     machine.count = table.len() as u64 / 4;
     for (i, f) in table.chunks(4).enumerate() {

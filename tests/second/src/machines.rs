@@ -137,6 +137,11 @@ fn accepted(dice: &mut Dice) -> Case {
 
 /// Short periods, made longer until the table is accepted.
 pub fn accepted_table(dice: &mut Dice, rows: u64) -> Vec<u32> {
+    table_accepted_by(dice, rows, &|table| start(table).1.is_ok())
+}
+
+/// The same with the word of another analysis.
+pub fn table_accepted_by(dice: &mut Dice, rows: u64, accepts: &dyn Fn(&[u32]) -> bool) -> Vec<u32> {
     let (longest_guest, longest_hypertask) = (dice.from_to(1, 6), dice.one_of(&[1, 1, 2, 3, 5]));
     let mut periods: Vec<u64> = (0..rows).map(|_| dice.from_to(2, 6 * rows + 2)).collect();
     if dice.percent(70) {
@@ -150,7 +155,7 @@ pub fn accepted_table(dice: &mut Dice, rows: u64) -> Vec<u32> {
     let mut table: Vec<[u64; 4]> = periods.into_iter().map(&mut row).collect();
     loop {
         let fields: Vec<u32> = table.iter().flatten().map(|field| *field as u32).collect();
-        if !asks_for_too_much(&table) && start(&fields).1.is_ok() {
+        if !asks_for_too_much(&table) && accepts(&fields) {
             return fields;
         }
         for [T, D, ..] in &mut table {

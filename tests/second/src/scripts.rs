@@ -155,6 +155,21 @@ pub fn script(dice: &mut Dice, machine: Machine, ticks: u64) -> (Vec<u8>, Met) {
     (records, met)
 }
 
+/// The records of that many ticks in which guests are silent and hypertasks run to their end. Tasks
+/// arrive at leisure at first, so that they get out of step, and then as soon as allowed.
+pub fn pressing_script(dice: &mut Dice, machine: Machine, ticks: u64) -> Vec<u8> {
+    let (mut machine, mut records) = (machine, Vec::new());
+    let at_leisure = dice.from_to(0, ticks / 2);
+    for number in 0..ticks {
+        let arrivals = if number < at_leisure { Arrivals::Leisurely } else { Arrivals::AsSoonAsAllowed };
+        let habits = Habits { arrivals, guests: Guests::Silent, early: Early::Never, strays: 0 };
+        let tick = Tick { mask: mask(dice, &machine, &habits), signal: 0, early: false };
+        machine = step(machine, tick).0;
+        records.extend(record(dice, tick));
+    }
+    records
+}
+
 /// The byte 1 is the early mark and no other byte is; the last two bytes are not looked at.
 fn record(dice: &mut Dice, tick: Tick) -> [u8; 8] {
     let [a, b, c, d] = tick.mask.to_le_bytes();

@@ -1,0 +1,81 @@
+//! Holds the library's machine to demand 3 job by job: runs from a fresh start on accepted tables,
+//! of which the tick records and the answers alone are looked at.
+//!
+//!     compare_jobs [SEED]               the library
+//!     compare_jobs --self-test [SEED]   programs with one fault each: every one must be noticed
+
+mod broken;
+mod library;
+mod tally;
+
+use second::analysis::analyse;
+use second::command::compare_main;
+use second::job_runs::{made_up, MadeUp, RUNS};
+use second::jobs::{books, Books, Fault, Run};
+use second::self_test::SelfTest;
+use std::process::ExitCode;
+use tally::Tally;
+
+fn main() -> ExitCode {
+    compare_main("compare_jobs", look_at_the_library, notice_the_broken)
+}
+
+fn look_at_the_library(seed: u64) -> bool {
+    let mut tally = Tally::default();
+    let mut shown = false;
+    for number in 0..RUNS {
+        let made_up = made_up(seed, number, analyse);
+        let found = books_of_the_library(&made_up);
+        let fault = fault_of(&found);
+        if let (Some(fault), false) = (&fault, shown) {
+            show(number, &made_up, fault);
+            shown = true;
+        }
+        tally.count(&made_up, found.as_ref().ok(), fault.is_some());
+    }
+    println!("the library's runs, job by job, seed {seed}");
+    tally.print();
+    tally.is_good()
+}
+
+/// The books of the library's run, or why there are none.
+fn books_of_the_library(made_up: &MadeUp) -> Result<Books, String> {
+    let MadeUp { table, records, .. } = made_up;
+    let (offsets, expected) = (library::enforcement_offsets(table)?, made_up.E());
+    if offsets != expected {
+        return Err(format!("E is {offsets:?}, the second program's {expected:?}"));
+    }
+    let answers = library::answers(table, records)?;
+    Ok(books(&Run { table, E: &offsets, records, answers: &answers }))
+}
+
+/// The first fault, if there is one.
+fn fault_of(found: &Result<Books, String>) -> Option<String> {
+    match found {
+        Err(why) => Some(why.clone()),
+        Ok(books) => books.faults.first().map(Fault::to_string),
+    }
+}
+
+fn show(number: u64, made_up: &MadeUp, fault: &str) {
+    println!("first faulty run: {number}, {:?}, {fault}", made_up.kind);
+    for (row, offset) in made_up.table.chunks(4).zip(made_up.E()) {
+        println!("  T D C K {row:?}, E {offset}");
+    }
+}
+
+/// The same look at each broken program, until all are noticed.
+fn notice_the_broken(seed: u64) -> bool {
+    let mut test = SelfTest::new(broken::all());
+    for number in 0..RUNS {
+        let sound = made_up(seed, number, analyse);
+        let sound_passes = broken::sound_books(&sound).faults.is_empty();
+        let some_left = test.look(sound_passes, |program| {
+            program.shown_by(seed, number, &sound).map(|fault| fault.to_string())
+        });
+        if !some_left {
+            break;
+        }
+    }
+    test.passed("programs")
+}
