@@ -1,12 +1,18 @@
 -- Worked cases of the plan file: document 01's plan of P2 with eight records, whole and damaged, and the writer's refusals.
 -- Assumes nothing.
 use mathlib.Core.Path.{_≡_}
+use mathlib.Core.Bool.{Bool, true, false}
 use mathlib.Core.List.{List, [], _∷_, _++_}
 use mathlib.Core.Option.{Option, none, some}
 use Prim.Native.Nat.{ℕ}
 use lib.ListN.{take, set, replicate}
 use Rattle.refusals.specs.declared.Refusal.{Refusal}
 use Rattle.refusals.specs.Refusals.{Line, line, lineOf}
+use Rattle.plan.specs.declared.Tick.{Tick}
+use Rattle.plan.specs.declared.Recorded.the-variants.{Record, Missing}
+use Rattle.plan.specs.declared.Taken.the-variants.{Numbers, NotInFours, TooShort}
+use Rattle.plan.specs.Numbers.{tableBytes, tableOf}
+use Rattle.plan.specs.Bodies.{tickBytes, recordOf, takenOf, afterTaken}
 use Rattle.plan.specs.PlanFile.{readRefusal}
 use Rattle.plan.specs.Writer.{writeRefusal}
 
@@ -103,3 +109,32 @@ ReadsRight (c ∷ cs) = (told (readRefusal (c .file)) ≡ c .says) × ReadsRight
 abbrev pub WritesRight : List Write → Type 0
 WritesRight [] = Unit {0}
 WritesRight (c ∷ cs) = (told (writeRefusal (c .rows) (c .ticks) (c .room)) ≡ c .says) × WritesRight cs
+
+-- bodies byte by byte: "mask 4 bytes, signal 1, early mark 0 or 1, two zero bytes", the lowest byte first
+abbrev pub twoRecords : List ℕ
+twoRecords = 1 ∷ 2 ∷ 3 ∷ 4 ∷ 5 ∷ 1 ∷ 0 ∷ 0 ∷ 255 ∷ 0 ∷ 0 ∷ 128 ∷ 32 ∷ 0 ∷ 0 ∷ 0 ∷ []
+
+abbrev pub tick : ℕ → ℕ → Bool → Tick
+tick mask signal early = record { mask = mask; signal = signal; early = early }
+
+-- 10, 1,000,000 and 2^32 − 1
+abbrev pub threeNumbers : List ℕ
+threeNumbers = 10 ∷ 0 ∷ 0 ∷ 0 ∷ 64 ∷ 66 ∷ 15 ∷ 0 ∷ 255 ∷ 255 ∷ 255 ∷ 255 ∷ []
+
+-- what comes of them
+pub record BodiesRight : Type 0 where
+  pub first-record : recordOf twoRecords 0 ≡ Record (tick 67305985 5 true)
+  pub second-record : recordOf twoRecords 1 ≡ Record (tick 2147483903 32 false)
+  pub no-third : recordOf twoRecords 2 ≡ Missing
+  -- half a record is none; a mark of 2, which no accepted script has, is no mark
+  pub half : recordOf (take 15 twoRecords) 1 ≡ Missing
+  pub mark-of-2 : recordOf (set twoRecords 5 2) 0 ≡ Record (tick 67305985 5 false)
+  pub records-again : tickBytes (tick 67305985 5 true) ++ tickBytes (tick 2147483903 32 false) ≡ twoRecords
+  pub numbers : tableOf threeNumbers ≡ 10 ∷ 1000000 ∷ 4294967295 ∷ []
+  pub numbers-again : tableBytes (10 ∷ 1000000 ∷ 4294967295 ∷ []) ≡ threeNumbers
+  -- into four lent numbers, into two, and of bytes that aren't in fours
+  pub enough : takenOf threeNumbers 4 ≡ Numbers 3
+  pub enough-after : afterTaken (Numbers 3) threeNumbers (9 ∷ 9 ∷ 9 ∷ 9 ∷ []) ≡ 10 ∷ 1000000 ∷ 4294967295 ∷ 9 ∷ []
+  pub too-few : takenOf threeNumbers 2 ≡ TooShort 3
+  pub too-few-after : afterTaken (TooShort 3) threeNumbers (9 ∷ 9 ∷ []) ≡ 9 ∷ 9 ∷ []
+  pub not-in-fours : takenOf (take 7 threeNumbers) 4 ≡ NotInFours 7
