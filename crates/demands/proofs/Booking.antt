@@ -1,7 +1,7 @@
 -- An output is booked to the job that ran: the row that the answer names is the one that step 3 chose, and the arrival that its stage carries in the
 -- machine's own rows, after the enforcements and the arrivals of that tick and before the run, is the one to which the output is booked.
 -- Assumes nothing.
-use Prim.Native.Nat.{ℕ, suc, _+_, _-_, _≤_, _<_}
+use Prim.Native.Nat.{ℕ, suc, _+_, _-_, _<_}
 use mathlib.Core.Path.{_≡_, refl, sym, ap, _∙_}
 use mathlib.Core.Bool.{Bool, true, false, cond, _||_}
 use mathlib.Core.List.{List, [], _∷_, _++_, append-nil}
@@ -17,7 +17,6 @@ use Rattle.equations.specs.declared.Answer.the-variants.{Accepted}
 use Rattle.equations.proofs.Exactly.{R, G}
 use Rattle.machine.specs.declared.Stage.{Stage}
 use Rattle.machine.specs.declared.Row.{Row}
-use Rattle.machine.specs.declared.Ran.{Ran}
 use Rattle.machine.specs.declared.Taken.{Taken}
 use Rattle.machine.specs.declared.Machine.{Machine}
 use Rattle.machine.specs.declared.Answer.{Answer}

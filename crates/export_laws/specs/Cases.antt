@@ -1,10 +1,10 @@
 -- Worked cases of the C interface, number by number: answers as 12 bytes, machines as 258 numbers, and what each function hands back.
 -- Assumes nothing.
-use Prim.Native.Nat.{ℕ, _-_, _^_}
+use Prim.Native.Nat.{ℕ, _^_}
 use mathlib.Core.Path.{_≡_}
 use mathlib.Core.Bool.{Bool, true, false}
 use mathlib.Core.List.{List, [], _∷_, _++_}
-use mathlib.Core.Option.{Option, none, some}
+use mathlib.Core.Option.{none, some}
 use lib.ListN.{length, take, set, replicate}
 use Rattle.refusals.specs.declared.Refusal.{Refusal}
 use Rattle.equations.specs.declared.Answer.the-variants.{Accepted, Refused}
@@ -15,7 +15,7 @@ use Rattle.machine.specs.declared.Ran.{Ran}
 use Rattle.machine.specs.declared.Mark.{Mark}
 use Rattle.machine.specs.declared.Answer.{Answer}
 use Rattle.machine.specs.Rows.{noRow}
-use Rattle.plan.specs.Cases.{table, script, rowsOfP2, planOfP2}
+use Rattle.plan.specs.Cases.{table, script, planOfP2}
 use Rattle.export.specs.Numbers.{numberIn, placeIn}
 use Rattle.export.specs.Start.{startSays, stateStarted}
 use Rattle.export.specs.State.{stateOf, machineIn, readable}
@@ -91,7 +91,7 @@ pub record FunctionsRight : Type 0 where
   pub ticks : ticksTaken p2Fresh (length (take 24 script)) 35 ≡ 2
   pub tick-state : stateAfter p2Fresh script 1 ≡ p2Arrived
   pub tick-answers : answersAfter p2Fresh script (replicate 25 9) 2
-      ≡ 0 ∷ 0 ∷ 0 ∷ 0 ∷ 0 ∷ 0 ∷ 0 ∷ 0 ∷ 1 ∷ 1 ∷ 0 ∷ 0 ∷ 1 ∷ 0 ∷ 0 ∷ 0 ∷ 0 ∷ 0 ∷ 0 ∷ 0 ∷ 1 ∷ 1 ∷ 0 ∷ 0 ∷ 9 ∷ []
+      ≡ (0 ∷ 0 ∷ 0 ∷ 0 ∷ 0 ∷ 0 ∷ 0 ∷ 0 ∷ 1 ∷ 1 ∷ 0 ∷ 0 ∷ []) ++ (1 ∷ 0 ∷ 0 ∷ 0 ∷ 0 ∷ 0 ∷ 0 ∷ 0 ∷ 1 ∷ 1 ∷ 0 ∷ 0 ∷ []) ++ (9 ∷ [])
   -- an accepted file, and a refused one
   pub file-accepted : (refusalNumber none ≡ 0) × (refusalPlace none 108 ≡ 108)
   pub file-refused : (refusalNumber (some (Refusal.BodyPlace 2)) ≡ 15) × (refusalPlace (some (Refusal.BodyPlace 2)) 108 ≡ 2)
