@@ -78,6 +78,10 @@ pub record StatesRight : Type 0 where
 
 -- ## What the functions hand back
 
+-- the guest of task 1 ran, with neither an output nor a signal
+abbrev pub guestAt : ℕ → List ℕ
+guestAt clock = clock ∷ 0 ∷ 0 ∷ 0 ∷ 0 ∷ 0 ∷ 0 ∷ 0 ∷ 1 ∷ 1 ∷ 0 ∷ 0 ∷ []
+
 pub record FunctionsRight : Type 0 where
   -- 0 and the number of tasks, or number and place
   pub accepted : (numberIn (Accepted 2) ≡ 0) × (placeIn (Accepted 2) ≡ 2)
@@ -90,8 +94,7 @@ pub record FunctionsRight : Type 0 where
   -- the first two ticks of P2's script: an arrival, and one that brings nothing; a third answer has no room
   pub ticks : ticksTaken p2Fresh (length (take 24 script)) 35 ≡ 2
   pub tick-state : stateAfter p2Fresh script 1 ≡ p2Arrived
-  pub tick-answers : answersAfter p2Fresh script (replicate 25 9) 2
-      ≡ (0 ∷ 0 ∷ 0 ∷ 0 ∷ 0 ∷ 0 ∷ 0 ∷ 0 ∷ 1 ∷ 1 ∷ 0 ∷ 0 ∷ []) ++ (1 ∷ 0 ∷ 0 ∷ 0 ∷ 0 ∷ 0 ∷ 0 ∷ 0 ∷ 1 ∷ 1 ∷ 0 ∷ 0 ∷ []) ++ (9 ∷ [])
+  pub tick-answers : answersAfter p2Fresh script (replicate 25 9) 2 ≡ guestAt 0 ++ guestAt 1 ++ (9 ∷ [])
   -- an accepted file, and a refused one
   pub file-accepted : (refusalNumber none ≡ 0) × (refusalPlace none 108 ≡ 108)
   pub file-refused : (refusalNumber (some (Refusal.BodyPlace 2)) ≡ 15) × (refusalPlace (some (Refusal.BodyPlace 2)) 108 ≡ 2)
