@@ -16,6 +16,7 @@ pub mod machine_damages;
 pub mod machine_numbers;
 pub mod machine_state;
 pub mod machines;
+pub mod met;
 pub mod plan;
 pub mod plan_files;
 pub mod scripts;

@@ -2,6 +2,7 @@
 
 use second::job_runs::{MadeUp, KINDS};
 use second::jobs::Books;
+use second::met::{is_met, line, Demand};
 
 /// A comparison that meets something less often than this shows too little about it.
 const FEWEST_RUNS: usize = 20_000;
@@ -81,7 +82,7 @@ impl Tally {
     }
 
     /// Everything that must be met, with its name, how often it was and how often it must be.
-    fn demands(&self) -> Vec<(String, usize, usize)> {
+    fn demands(&self) -> Vec<Demand> {
         let named = [
             ("runs", self.runs, FEWEST_RUNS),
             ("runs of some number of rows", self.fewest_of_a_size(), FEWEST_OF_A_SIZE),
@@ -100,20 +101,10 @@ impl Tally {
 
     /// Prints what is amiss, and answers whether nothing is.
     pub fn is_good(&self) -> bool {
-        let mut good = self.faulty == 0;
+        let good = self.faulty == 0;
         if self.faulty > 0 {
             println!("FAILED: {} runs are faulty", self.faulty);
         }
-        for (name, met, fewest) in self.demands() {
-            if met < fewest {
-                println!("FAILED: met too rarely: {name}, {met} times, not {fewest}");
-                good = false;
-            }
-        }
-        good
+        is_met(self.demands()) && good
     }
-}
-
-fn line(name: &str, count: usize) {
-    println!("{name:<44}{count:>9}");
 }

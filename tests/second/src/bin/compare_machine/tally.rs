@@ -3,6 +3,7 @@
 use crate::outcome::Outcome;
 use second::machine_damages::DAMAGES;
 use second::machines::{Begin, Case, KINDS};
+use second::met::{is_met, line, Demand};
 use second::scripts::Met;
 
 /// A run that meets something less often than this shows too little about it.
@@ -137,7 +138,7 @@ impl Tally {
     }
 
     /// Everything that must be met, with its name, how often it was and how often it must be.
-    fn demands(&self) -> Vec<(String, usize, usize)> {
+    fn demands(&self) -> Vec<Demand> {
         let mut demands = vec![
             ("machines".to_string(), self.machines, FEWEST_MACHINES),
             ("ticks".to_string(), self.ticks, FEWEST_TICKS),
@@ -169,25 +170,15 @@ impl Tally {
 
     /// Prints what is amiss, and answers whether nothing is.
     pub fn is_good(&self) -> bool {
-        let mut good = self.different == 0 && self.damage_unseen == 0;
+        let good = self.different == 0 && self.damage_unseen == 0;
         if self.different > 0 {
             println!("FAILED: {} machines are different", self.different);
         }
         if self.damage_unseen > 0 {
             println!("FAILED: {} damaged machines are not refused with 8 throughout", self.damage_unseen);
         }
-        for (name, met, fewest) in self.demands() {
-            if met < fewest {
-                println!("FAILED: met too rarely: {name}, {met} times, not {fewest}");
-                good = false;
-            }
-        }
-        good
+        is_met(self.demands()) && good
     }
-}
-
-fn line(name: &str, count: usize) {
-    println!("{name:<44}{count:>9}");
 }
 
 fn is_refused_with_8_throughout(case: &Case, expected: &Outcome) -> bool {

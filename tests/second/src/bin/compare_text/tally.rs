@@ -1,6 +1,7 @@
 //! What a run of the comparison has met, told from the second program's texts, and whether that
 //! is enough.
 
+use second::met::{is_met, Demand};
 use second::plan;
 use second::text_plans::{Case, Kind, KINDS};
 use std::collections::BTreeMap;
@@ -124,7 +125,7 @@ impl Tally {
     }
 
     /// Everything that must be met, with its name, how often it was and how often it must be.
-    fn demands(&self) -> Vec<(String, usize, usize)> {
+    fn demands(&self) -> Vec<Demand> {
         let mut demands = vec![
             ("plans the same".to_string(), self.same, FEWEST_PLANS),
             ("ticks".to_string(), self.ticks, FEWEST_TICKS),
@@ -159,17 +160,11 @@ impl Tally {
 
     /// Prints what is amiss, and answers whether nothing is.
     pub fn is_good(&self) -> bool {
-        let mut good = self.different == 0;
+        let good = self.different == 0;
         if self.different > 0 {
             println!("FAILED: {} plans are different", self.different);
         }
-        for (name, met, fewest) in self.demands() {
-            if met < fewest {
-                println!("FAILED: met too rarely: {name}, {met} times, not {fewest}");
-                good = false;
-            }
-        }
-        good
+        is_met(self.demands()) && good
     }
 }
 
