@@ -23,13 +23,13 @@ use Rattle.machine.specs.declared.Answer.{Answer}
 use Rattle.machine.specs.Rows.{withStage, inMask, Found, at, none, isHyper, hasBudget}
 use Rattle.machine.specs.TickRule.{Verdict, refused, accepted, verdict, turned, chosen, ranFrom, nobodyRan, ranOn, taken, stepBy, stepOf}
 use Rattle.machine.specs.Fresh.{freshAt}
-use Rattle.machine.proofs.Choice.{chosen-runs}
+use Rattle.machine.proofs.Choice.{turned-length, chosen-runs}
 use Rattle.start.specs.Start.{rowOf, rowsOf, startAnswer, startOf}
 use Rattle.demands.specs.Runs.{Tick, TakenTick, Run, takenBy, after, onward, run}
 use Rattle.demands.specs.Jobs.{tickAt, latest, isAt, bookedTo}
 use Rattle.demands.specs.Booking.{arrivalOf, rowsFor, isRowOf, JobThatRan}
 use Rattle.demands.proofs.Rows.{clash}
-use Rattle.demands.proofs.Ticks.{rowAt, stageAt, Legal, legal, turned-at, turned-length, turned-stage}
+use Rattle.demands.proofs.Ticks.{rowAt, stageAt, Legal, legal, turned-at, turned-stage}
 use Rattle.demands.proofs.Accepted.{schedulable, fits}
 use Rattle.demands.proofs.TakenTicks.{more-length, tick-last, tick-other, latest-now, booked-before}
 use Rattle.demands.proofs.RowJobs.{turned-arrival, shift}

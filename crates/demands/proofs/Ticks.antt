@@ -18,6 +18,7 @@ use Rattle.machine.specs.Rows.{noRow, withStage, inMask, Found, at, none, first
 use Rattle.machine.specs.TickRule.{pastLast, youngerThan, tooSoon, whileHyper, enforced, verdict, accepted, begun, waiting, ready, chosen, ranFrom}
 use Rattle.machine.specs.TickRule.{turned, ranOn}
 use Rattle.machine.proofs.Searches.{none-at, map-at, map-length}
+use Rattle.machine.proofs.Choice.{turned-length}
 use Rattle.machine.proofs.Tests.{first-fails}
 use Rattle.machine.proofs.Verdicts.{Passed, passed}
 use Rattle.demands.proofs.Source.{View, Source, nothing-new, new-job, Served, by-nobody, by-guest, by-hypertask, Step}
@@ -50,10 +51,6 @@ turned-at c mask l j h =
     let f : ℕ → Row → Row = λ i r. withStage r (enforced c (r .k) (r .e) (r .stage)) in
     let g : ℕ → Row → Row = λ i r. withStage r (cond (inMask mask i) (Stage.Guest c 0) (r .stage)) in
     rw z at (map-at g (mapFrom f 0 l) 0 j (rw (map-length f l 0) h) ∙ ap (g (0 + j)) (map-at f l 0 j h))
-
-pub turned-length : (c mask : ℕ) (l : List Row) → length (turned c mask l) ≡ length l
-unfolding turned
-turned-length c mask l = map-length _ (mapFrom _ 0 l) 0 ∙ map-length _ l 0
 
 -- what a search finds
 data Looked (p : Row → Bool) (i : ℕ) (l : List Row) : Found → Type 0 where

@@ -1,7 +1,7 @@
 -- Laws of a machine as 258 numbers.
 -- Assumes nothing.
 use mathlib.Core.Path.{_≡_, refl, sym, ap, _∙_}
-use mathlib.Core.Bool.{Bool, true, false, cond}
+use mathlib.Core.Bool.{Bool, true, false, cond, true≢false}
 use mathlib.Core.List.{List, [], _∷_, _++_, append-nil}
 use mathlib.Core.Option.{Option, none, some}
 use Prim.Native.Nat.{ℕ, suc, _+_, _-_, _*_, _≤_, _<_}
@@ -13,7 +13,7 @@ use lib.ListN.{length, getD, set, take, drop, replicate, length-set}
 use lib.Seq.{sets-eq}
 use Rattle.least.specs.Search.{firstWhere}
 use Rattle.least.specs.Lists.{listOf, flat}
-use Rattle.least.proofs.Where.{true-false, where-none}
+use Rattle.least.proofs.Where.{where-none}
 use Rattle.machine.specs.Rows.{noRow, mapFrom}
 use Rattle.machine.specs.Fresh.{freshRows, freshAt}
 use Rattle.machine.specs.declared.Stage.{Stage}
@@ -111,10 +111,10 @@ can-read l e = go (ltb (length l) 258) refl (firstWhere (unreadable l) 0 32) ref
   where
     go : (b : Bool) → ltb (length l) 258 ≡ b → (o : Option ℕ) → firstWhere (unreadable l) 0 32 ≡ o
         → cond b false (isNone o) ≡ true → Readable l
-    go true p o q e = absurd (true-false (sym e))
+    go true p o q e = absurd (true≢false (sym e))
     go false p none q e =
         record { long = ltb-false (length l) 258 p; places = λ i h. where-none (unreadable l) 32 0 q i (omega arith) (omega arith) }
-    go false p (some k) q e = absurd (true-false (sym e))
+    go false p (some k) q e = absurd (true≢false (sym e))
 
 -- a row from its eight numbers
 pub row-is : (l : List ℕ) (i a b c d e x y z : ℕ) (s : Stage) → x ≡ numberIn l i 5 → y ≡ numberIn l i 6 → z ≡ numberIn l i 7

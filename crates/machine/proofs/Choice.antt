@@ -15,12 +15,15 @@ use Rattle.machine.specs.WellFormed.{rowFits, fieldsFit, stageFits}
 use Rattle.machine.specs.TickRule.{youngerThan, pastLast, tooSoon, whileHyper, enforced, begun, waiting, ready, chosen, turned}
 use Rattle.machine.specs.OnePass.{place, misplaced, arrives, willWait, willBeReady, seenIn, chosenBy, turnedRow}
 use Rattle.machine.proofs.Tests.{both, and-false, fields-say}
-use Rattle.machine.proofs.Searches.{none-cons, found-at, below, or-place, map-map}
+use Rattle.machine.proofs.Searches.{none-cons, found-at, below, or-place, map-length, map-map}
 
 -- steps 1 and 2 as one change of each row
 pub turned-law : (clock mask : ℕ) (rows : List Row) → turned clock mask rows ≡ mapFrom (turnedRow clock mask) 0 rows
 unfolding turned turnedRow
 turned-law clock mask rows = map-map _ _ 0 rows
+
+pub turned-length : (clock mask : ℕ) (rows : List Row) → length (turned clock mask rows) ≡ length rows
+turned-length clock mask rows = rw (turned-law clock mask rows) (map-length (turnedRow clock mask) rows 0)
 
 -- what an accepted tick says of the rows l from place i on
 pub record Taking (clock count mask i : ℕ) (l : List Row) : Type 0 where

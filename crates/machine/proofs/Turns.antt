@@ -6,7 +6,7 @@ use mathlib.Core.List.{List, [], _∷_, append-nil}
 use Prim.Native.Nat.{ℕ, suc, _+_, _-_, _≤_, _<_, _^_}
 use native.Mathlib.Omega.{arith}
 use lib.Dec.{leb, ltb, eqb}
-use lib.ListN.{length, getD, take, drop-of-length-le}
+use lib.ListN.{getD, take, drop-of-length-le}
 use lib.Seq.{take-all}
 use borrow.Author.Tests.{lt-ltb, le-leb}
 use Rattle.refusals.specs.declared.Refusal.{Refusal}
@@ -20,11 +20,11 @@ use Rattle.machine.specs.WellFormed.{begunRow, wellFormed}
 use Rattle.machine.specs.TickRule.{pastLast, tooSoon, whileHyper, Verdict, refused, accepted, verdict, enforced, chosen, turned}
 use Rattle.machine.specs.OnePass.{place, isDue, turnedRow, passedRow, seenIn, pastFrom, chosenBy, orRefused, judgedBy}
 use Rattle.machine.proofs.Tests.{and-true, not-leb}
-use Rattle.machine.proofs.Searches.{below, place-found, place-none, map-length}
+use Rattle.machine.proofs.Searches.{below, place-found, place-none}
 use Rattle.machine.proofs.Mask.{past-law}
 use Rattle.machine.proofs.Verdicts.{well-law, formed, pastIn, soonIn, hyperIn, passed}
 use Rattle.machine.proofs.Pass.{Free, Passing}
-use Rattle.machine.proofs.Choice.{Taking, taking-next, turned-law, arrives-law, chosen-law, chosen-runs}
+use Rattle.machine.proofs.Choice.{Taking, taking-next, turned-law, turned-length, arrives-law, chosen-law, chosen-runs}
 
 -- a row that is neither in the mask nor due stays
 not-enforced : (clock k e : ℕ) (s : Stage) → isDue clock e s ≡ false → enforced clock k e s ≡ s
@@ -206,11 +206,10 @@ module _ (m : Machine) (mask : ℕ) (w : Seen) (next : List Row) (p : Passing m 
         all-free (passed m mask ok .apart) .so-far ∙ rw (all-rows, end) (append-nil (mapFrom (passedRow (m .clock) (m .count) mask) 0 (m .rows)))
         ∙ passed-rows (m .clock) (m .count) mask 0 (m .rows) (taking m mask ok) ∙ sym (turned-law (m .clock) mask (m .rows))
 
-    long-turned : length (turned (m .clock) mask (m .rows)) ≡ 32
-    long-turned = rw (turned-law (m .clock) mask (m .rows)) (map-length (turnedRow (m .clock) mask) (m .rows) 0) ∙ p .long
-
     found-below : (j : ℕ) → chosen (turned (m .clock) mask (m .rows)) ≡ at j → j < 32
-    found-below j e = let q = chosen-runs (turned (m .clock) mask (m .rows)) j e in omega (arith, long-turned)
+    found-below j e =
+        let q = chosen-runs (turned (m .clock) mask (m .rows)) j e in
+        omega (arith, turned-length (m .clock) mask (m .rows), p .long)
 
     pub runs-at : runs < 32 → chosen (turned (m .clock) mask (m .rows)) ≡ at runs
     runs-at h = place-found (chosen (turned (m .clock) mask (m .rows))) runs found-below (judged-taken runs judged .1) h

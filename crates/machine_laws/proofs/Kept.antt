@@ -21,9 +21,9 @@ use Rattle.machine.specs.TickRule.{verdict, enforced, begun, waiting, ready, ch
 use Rattle.machine.specs.TickRule.{turned, ranOn, taken, stepBy, stepOf}
 use Rattle.machine.specs.OnePass.{misplaced, turnedRow}
 use Rattle.machine.proofs.Tests.{both, first-fails, fields-say, blank-never}
-use Rattle.machine.proofs.Searches.{found-at, none-at, all-none, map-length, map-at}
+use Rattle.machine.proofs.Searches.{found-at, none-at, all-none, map-at}
 use Rattle.machine.proofs.Verdicts.{well-law, Formed, formed, Passed, passed}
-use Rattle.machine.proofs.Choice.{turned-law, begun-stays, not-begun, chosen-runs}
+use Rattle.machine.proofs.Choice.{turned-law, turned-length, begun-stays, not-begun, chosen-runs}
 use Rattle.machine.proofs.Turns.{row-stays}
 use Rattle.machine_laws.proofs.Counts.{count-map, count-none, count-set, one-or-none}
 use Rattle.machine_laws.proofs.Stages.{enforced-fits, arrived-fits, ran-fits}
@@ -141,7 +141,7 @@ one-stays rows i signal early c one = go (first begun rows) refl (first waiting 
 -- the rows after steps 1 and 2
 module _ (m : Machine) (mask : ℕ) (long : length (m .rows) ≡ 32) (ok : Passed m mask) where
   next-length : length (turned (m .clock) mask (m .rows)) ≡ 32
-  next-length = rw (turned-law (m .clock) mask (m .rows)) (map-length (turnedRow (m .clock) mask) (m .rows) 0 ∙ long)
+  next-length = turned-length (m .clock) mask (m .rows) ∙ long
 
   next-placed : (k : ℕ) → k < length (turned (m .clock) mask (m .rows))
       → Placed (m .clock + 1) (m .count) k (getD (turned (m .clock) mask (m .rows)) k noRow)
@@ -226,7 +226,7 @@ unfolding stepOf taken
 step-length m mask signal early = go (verdict m mask)
   where
     long : length (turned (m .clock) mask (m .rows)) ≡ length (m .rows)
-    long = rw (turned-law (m .clock) mask (m .rows)) (map-length (turnedRow (m .clock) mask) (m .rows) 0)
+    long = turned-length (m .clock) mask (m .rows)
 
     ran : (f : Found) → length (ranOn (m .count) (m .clock) (turned (m .clock) mask (m .rows)) signal early f .machine .rows) ≡ length (m .rows)
     ran (at i) = simp length-set long

@@ -157,7 +157,8 @@ brokenClauses =
     ∷ unfit (past (row 0 0 0 1 0 never))
     ∷ unfit (past (row 0 0 0 0 1 never))
     ∷ unfit (past (row 0 0 0 0 0 (closed 0)))
-    -- at the edges it is well formed: fields of 1 and of 1,000,000, an arrival at the clock, all of C used, a Guest one tick before arrival + E
+    -- at the edges it is well formed: 32 rows, fields of 1 and of 1,000,000, an arrival at the clock, all of C used
+    ∷ idle (machine 100 (replicate 32 (row 10 10 2 1 7 never)))
     ∷ idle (second (row 2 2 1 1 1 never))
     ∷ idle (second (row 1000000 1000000 1000000 1000000 999999 never))
     ∷ idle (p9 5 (closed 5) never)

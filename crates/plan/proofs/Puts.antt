@@ -2,19 +2,16 @@
 -- Assumes nothing.
 use mathlib.Core.Path.{_≡_, sym, ap, _∙_}
 use mathlib.Core.List.{List, [], _∷_, _++_}
-use Prim.Native.Nat.{ℕ, suc, _+_, _*_, _≤_, _<_}
+use Prim.Native.Nat.{ℕ, _+_, _*_, _≤_, _<_}
 use native.Mathlib.Numerals.{add-one, add-two, add-three}
 use native.Mathlib.Omega.{arith}
 use lib.ListN.{length, getD, take, drop, set, length-append}
 use lib.Seq.{sets, sets-eq, take-suc, length-take-le}
+use Rattle.least.proofs.Lists.{sets-append}
 use Rattle.plan.specs.Numbers.{bytesOf, tableBytes}
 use Rattle.plan.proofs.Digits.{table-length, table-append}
 
 -- a piece right after another
-pub sets-append : (l : List ℕ) (i : ℕ) (t u : List ℕ) → sets l i (t ++ u) ≡ sets (sets l i t) (i + length t) u
-sets-append l i [] u = let e : i + 0 ≡ i = omega arith in rw e
-sets-append l i (x ∷ t) u = let e : i + suc (length t) ≡ suc i + length t = omega arith in rw e (sets-append (set l i x) (suc i) t u)
-
 pub sets-then : (l : List ℕ) (i j : ℕ) (t u : List ℕ) → j ≡ i + length t → sets (sets l i t) j u ≡ sets l i (t ++ u)
 sets-then l i j t u e = ap (λ (x : ℕ). sets (sets l i t) x u) e ∙ sym (sets-append l i t u)
 

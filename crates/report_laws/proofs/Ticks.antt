@@ -19,11 +19,10 @@ use Rattle.machine.specs.WellFormed.{wellFormed}
 use Rattle.machine.specs.TickRule.{pastLast, tooSoon, whileHyper, Verdict, refused, accepted, refuseAt, verdict, chosen, guestRan, hypertaskRan, ranFrom}
 use Rattle.machine.specs.TickRule.{turned, ranOn, taken, stepBy, stepOf}
 use Rattle.machine.proofs.Searches.{below}
-use Rattle.machine.proofs.Choice.{chosen-runs}
+use Rattle.machine.proofs.Choice.{turned-length, chosen-runs}
 use Rattle.machine_laws.proofs.Ticks.{refused-clock, taken-clock}
 use Rattle.machine_laws.proofs.Kept.{step-length}
 use Rattle.demands.specs.Runs.{Tick, Run, after}
-use Rattle.demands.proofs.Ticks.{turned-length}
 use Rattle.text.specs.Put.{lastPlace}
 use Rattle.text.specs.Lines.{tickLine}
 use Rattle.report.specs.Report.{answerTo, ticksFrom, tickLines}

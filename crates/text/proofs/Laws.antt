@@ -10,11 +10,8 @@ use lib.ListN.{length, drop, getD, set, length-append, length-set}
 use lib.Seq.{sets, set-out, length-sets, drop-cons, sets-eq}
 use lib.Dec.{leb, ltb}
 use borrow.Author.Tests.{leb-true, leb-false, lt-ltb, le-ltb, ltb-true, ltb-false}
+use Rattle.least.proofs.Lists.{sets-append}
 use Rattle.text.specs.Put.{Put, digitsIn, digitsOf, spaced, lastPlace}
-
-sets-append : (l : List ℕ) (i : ℕ) (t u : List ℕ) → sets l i (t ++ u) ≡ sets (sets l i t) (i + length t) u
-sets-append l i [] u = let e : i + 0 ≡ i = omega arith in rw e
-sets-append l i (x ∷ t) u = let e : i + suc (length t) ≡ suc i + length t = omega arith in rw e (sets-append (set l i x) (suc i) t u)
 
 sets-out : (l : List ℕ) (i : ℕ) (t : List ℕ) → length l ≤ i → sets l i t ≡ l
 sets-out l i [] h = refl
