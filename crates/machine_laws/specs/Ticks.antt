@@ -137,7 +137,7 @@ brokenClauses =
     ∷ unfit (second (row 20 20 4 2 20 never))
     -- a clock above 2^40
     ∷ unfit (p9 (2 ^ 40 + 1) never never)
-    -- an arrival after the clock
+    -- an arrival after the clock; of a Hyper it breaks the clause on its age too
     ∷ unfit (p9 5 (closed 6) never)
     ∷ unfit (p9 5 never (guest 6 0))
     ∷ unfit (p9 5 never (hyper 6 2))
@@ -218,8 +218,9 @@ steps =
     -- where none has begun the first Hyper runs
     ∷ takes (p9 27 (hyper 10 1) (hyper 10 2)) 0 0 false (Ran.Hypertask 1) Mark.Output false (closed 10 ∷ hyper 10 2 ∷ [])
     ∷ takes (three 40 never (hyper 10 2) (hyper 0 3)) 0 0 false (Ran.Hypertask 2) Mark.Nothing false (never ∷ hyper 10 1 ∷ hyper 0 3 ∷ [])
-    -- a hypertask goes before every guest
+    -- a hypertask goes before every guest, whether it has begun or not
     ∷ takes (p9 17 never (hyper 0 1)) 1 0 false (Ran.Hypertask 2) Mark.Output false (guest 17 0 ∷ closed 0 ∷ [])
+    ∷ takes (p9 17 never (hyper 0 2)) 1 0 false (Ran.Hypertask 2) Mark.Nothing false (guest 17 0 ∷ hyper 0 1 ∷ [])
     -- a guest is pre-empted by one above it, and goes on where it was
     ∷ takes (p9 2 never (guest 0 2)) 1 0 false (Ran.Guest 1) Mark.Nothing false (guest 2 1 ∷ guest 0 2 ∷ [])
     ∷ takes (p9 4 (guest 2 2) (guest 0 2)) 0 0 false (Ran.Guest 2) Mark.Nothing false (guest 2 2 ∷ guest 0 3 ∷ [])
@@ -230,7 +231,8 @@ steps =
     ∷ takes (three 40 never never (hyper 0 3)) 0 0 false (Ran.Hypertask 3) Mark.Nothing false (never ∷ never ∷ hyper 0 2 ∷ [])
     ∷ takes (three 41 never never (hyper 0 2)) 0 0 false (Ran.Hypertask 3) Mark.Nothing false (never ∷ never ∷ hyper 0 1 ∷ [])
     ∷ takes (three 42 never never (hyper 0 1)) 0 0 false (Ran.Hypertask 3) Mark.Output false (never ∷ never ∷ closed 0 ∷ [])
-    -- a guest has one more used; its last tick without an output is marked
+    -- a guest has one more used, also one whose arrival is the clock; its last tick without an output is marked
+    ∷ takes (p9 5 never (guest 5 0)) 0 0 false (Ran.Guest 2) Mark.Nothing false (never ∷ guest 5 1 ∷ [])
     ∷ takes (p9 1 never (guest 0 1)) 0 0 false (Ran.Guest 2) Mark.Nothing false (never ∷ guest 0 2 ∷ [])
     ∷ takes (p9 3 never (guest 0 3)) 0 0 false (Ran.Guest 2) Mark.BudgetUsedUp false (never ∷ guest 0 4 ∷ [])
     ∷ []
