@@ -25,7 +25,20 @@ answers-right = record { guest = refl; guest-output = refl; budget-used = refl; 
 
 pub states-right : StatesRight
 unfolding firstWhere listOf flat stateOf rowIn machineIn unreadable readable
-states-right = record { to-numbers = refl; from-numbers = refl; read = refl; too-few = refl; wide-field = refl; no-stage = refl }
+states-right =
+    record {
+      to-numbers = refl;
+      from-numbers = refl;
+      read = refl;
+      too-few = refl;
+      wide-t = refl;
+      wide-d = refl;
+      wide-c = refl;
+      wide-k = refl;
+      wide-e = refl;
+      largest-field = refl;
+      no-stage = refl;
+    }
 
 pub functions-right : FunctionsRight
 unfolding firstWhere up sum largest listOf flat B demand activeSide activePeriod releases startDemand startSide start jobResponse worst response E

@@ -71,9 +71,14 @@ pub record StatesRight : Type 0 where
   pub to-numbers : stateOf four ≡ fourNumbers
   pub from-numbers : machineIn fourNumbers ≡ four
   pub read : readable fourNumbers ≡ true
-  -- too few numbers; a field of 2^32; a stage number above 3
+  -- too few numbers; a field of 2^32, in the first place and in the last; a stage number above 3
   pub too-few : readable (take 257 fourNumbers) ≡ false
-  pub wide-field : readable (set fourNumbers 2 4294967296) ≡ false
+  pub wide-t : readable (set fourNumbers 2 4294967296) ≡ false
+  pub wide-d : readable (set fourNumbers 3 4294967296) ≡ false
+  pub wide-c : readable (set fourNumbers 4 4294967296) ≡ false
+  pub wide-k : readable (set fourNumbers 5 4294967296) ≡ false
+  pub wide-e : readable (set fourNumbers 254 4294967296) ≡ false
+  pub largest-field : readable (set fourNumbers 254 4294967295) ≡ true
   pub no-stage : readable (set fourNumbers 7 4) ≡ false
 
 -- ## What the functions hand back

@@ -25,12 +25,11 @@ table-of-p2 = refl
 
 pub reads-right : ReadsRight reads
 unfolding firstWhere numberAt sectionsFrom sectionsOf bodyOf startAt wrongKind wrongRecord firstWrongRecord asked firstEntry entriesRefusal readRefusal
-reads-right =
-    (refl, (refl, (refl, (refl, (refl, (refl, (refl, (refl, (refl, (refl, (refl, (refl, (refl, (refl, (refl, (refl, (refl, (refl, tt))))))))))))))))))
+reads-right = refl
 
 pub writes-right : WritesRight writes
 unfolding firstWhere tableBytes contents bodies fileOf wrongRecord firstWrongRecord planOf planFile writeRefusal
-writes-right = (refl, (refl, (refl, (refl, (refl, (refl, (refl, tt)))))))
+writes-right = (refl, (refl, (refl, (refl, (refl, (refl, (refl, (refl, (refl, tt)))))))))
 
 pub bodies-right : BodiesRight
 unfolding numberAt listOf tableBytes recordOf takenOf

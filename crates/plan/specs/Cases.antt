@@ -4,7 +4,7 @@ use mathlib.Core.Path.{_≡_}
 use mathlib.Core.Bool.{Bool, true, false}
 use mathlib.Core.List.{List, [], _∷_, _++_}
 use mathlib.Core.Option.{Option, none, some}
-use Prim.Native.Nat.{ℕ}
+use Prim.Native.Nat.{ℕ, _+_}
 use lib.ListN.{take, set, replicate}
 use Rattle.refusals.specs.declared.Refusal.{Refusal}
 use Rattle.refusals.specs.Refusals.{Line, line, lineOf}
@@ -41,6 +41,14 @@ rowsOfP2 = 10 ∷ 0 ∷ 0 ∷ 0 ∷ 8 ∷ 0 ∷ 0 ∷ 0 ∷ 3 ∷ 0 ∷ 0 ∷ 0 
 abbrev pub planOfP2 : List ℕ
 planOfP2 = contentsOfP2 ++ rowsOfP2 ++ script
 
+-- rows alone: one entry, whose length has these two low bytes
+abbrev pub rowsAlone : ℕ → ℕ → List ℕ → List ℕ
+rowsAlone low high rows = (1 ∷ 0 ∷ 0 ∷ 0 ∷ 1 ∷ 0 ∷ 0 ∷ 0 ∷ 16 ∷ 0 ∷ 0 ∷ 0 ∷ low ∷ high ∷ 0 ∷ 0 ∷ []) ++ rows
+
+-- P2's plan with a script of n bytes
+abbrev pub scriptCut : ℕ → List ℕ → List ℕ
+scriptCut n plan = set (take (44 + n) plan) 24 n
+
 -- a file, and what the reader says of it
 pub record Read : Type 0 where
   pub file : List ℕ
@@ -52,8 +60,10 @@ read f l = record { file = f; says = l }
 abbrev pub reads : List Read
 reads =
     read planOfP2 none
-    -- with no script: one entry, 32 bytes
-    ∷ read ((1 ∷ 0 ∷ 0 ∷ 0 ∷ 1 ∷ 0 ∷ 0 ∷ 0 ∷ 16 ∷ 0 ∷ 0 ∷ 0 ∷ 16 ∷ 0 ∷ 0 ∷ 0 ∷ []) ++ rowsOfP2) none
+    -- with no script, 32 bytes; 32 rows, whatever their fields; an early mark of 1
+    ∷ read (rowsAlone 16 0 rowsOfP2) none
+    ∷ read (rowsAlone 0 2 (replicate 512 0)) none
+    ∷ read (set planOfP2 49 1) none
     -- 13
     ∷ read [] (refused 13 0)
     ∷ read (take 3 planOfP2) (refused 13 3)
@@ -70,9 +80,14 @@ reads =
     ∷ read (set (set (set (set planOfP2 12 255) 13 255) 14 255) 15 255) (refused 15 1)
     ∷ read (set planOfP2 20 45) (refused 15 2)
     ∷ read (planOfP2 ++ (0 ∷ [])) (refused 15 2)
-    -- 16: rows of 17 bytes, a present script of length 0
+    -- 16: rows of 17 bytes, no rows, 33 rows; a present script of length 0, one of 63 bytes
     ∷ read (set (set (set planOfP2 12 17) 20 45) 24 63) (refused 16 1)
-    ∷ read (set (take 44 planOfP2) 24 0) (refused 16 2)
+    ∷ read (rowsAlone 0 0 []) (refused 16 1)
+    ∷ read (rowsAlone 16 2 (replicate 528 0)) (refused 16 1)
+    ∷ read (scriptCut 0 planOfP2) (refused 16 2)
+    ∷ read (scriptCut 63 planOfP2) (refused 16 2)
+    -- 16 before 17
+    ∷ read (scriptCut 12 (set planOfP2 49 2)) (refused 16 2)
     -- 17: the early mark 2 in record 3, a spare byte in record 7
     ∷ read (set planOfP2 73 2) (refused 17 3)
     ∷ read (set planOfP2 107 1) (refused 17 7)
@@ -92,9 +107,11 @@ abbrev pub writes : List Write
 writes =
     write table script 108 none
     ∷ write table [] 32 none
+    ∷ write (replicate 128 0) [] 528 none
     -- 1 before 16
     ∷ write [] (take 7 script) 108 (refused 1 0)
     ∷ write (1 ∷ table) script 108 (refused 1 5)
+    ∷ write (replicate 132 0) [] 544 (refused 1 132)
     -- 16 before 17, place 2
     ∷ write table (take 63 (set script 5 2)) 108 (refused 16 2)
     -- 17 before 18
@@ -102,9 +119,17 @@ writes =
     ∷ write table script 107 (refused 18 108)
     ∷ []
 
+-- what the reader and the writer make of them is what they say
+abbrev pub found : List Read → List (Option Line)
+found [] = []
+found (c ∷ cs) = told (readRefusal (c .file)) ∷ found cs
+
+abbrev pub said : List Read → List (Option Line)
+said [] = []
+said (c ∷ cs) = c .says ∷ said cs
+
 abbrev pub ReadsRight : List Read → Type 0
-ReadsRight [] = Unit {0}
-ReadsRight (c ∷ cs) = (told (readRefusal (c .file)) ≡ c .says) × ReadsRight cs
+ReadsRight cs = found cs ≡ said cs
 
 abbrev pub WritesRight : List Write → Type 0
 WritesRight [] = Unit {0}
