@@ -1,8 +1,8 @@
-//! The library's C interface as Rust declares it, the same as tollsalmon.h has it for C. Everyone who links libexport.a
-//! from Rust takes this file by its path, so that a function is declared once.
+//! The library's C interface as Rust declares it, the same as tollsalmon.h has it for C. Everyone who links the
+//! library from Rust takes this file by its path, so that a function is declared once.
 #![allow(dead_code)] // nobody calls every function
 
-#[link(name = "export", kind = "static")]
+#[link(name = "tollsalmon", kind = "static")]
 extern "C" {
     pub fn tollsalmon_analyse(
         table: *const u32,
@@ -25,7 +25,18 @@ extern "C" {
         records_len: usize,
         answers: *mut u8,
         answers_len: usize,
-    ) -> u64;
+        place: *mut u64,
+    ) -> u32;
+    pub fn tollsalmon_step(
+        state: *mut u64,
+        state_len: usize,
+        mask: u32,
+        signal: u8,
+        early: u8,
+        answer: *mut u8,
+        answer_len: usize,
+        place: *mut u64,
+    ) -> u32;
     pub fn tollsalmon_check(file: *const u8, file_len: usize, place: *mut u64) -> u32;
     pub fn tollsalmon_table(file: *const u8, file_len: usize, table: *mut u32, table_len: usize) -> u64;
     pub fn tollsalmon_script(file: *const u8, file_len: usize, script: *mut u8, script_len: usize) -> u64;
