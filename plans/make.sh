@@ -1,10 +1,14 @@
 #!/usr/bin/env bash
 # Makes every NAME.plan from NAME.txt with the tool, and every NAME.out from NAME.plan with the
-# second program.
+# second program. Both link libtollsalmon.a: the one in target/staticlib, or in the folder that
+# TOLLSALMON_LIB names.
 #
 #   plans/make.sh          makes them all again
 #   plans/make.sh check    says whether those that stand here are what would be made
 set -euo pipefail
+unset CDPATH
+word=${1:-make}
+[[ $# -le 1 && ($word == make || $word == check) ]] || { echo "usage: plans/make.sh [check]" >&2; exit 2; }
 cd "$(dirname "$0")"
 
 plan=../target/tools/release/plan
@@ -23,15 +27,19 @@ damage() {
   esac
 }
 
+# The plan of a text. A warning may be what a plan is about, so what the tool says is shown only where it fails.
+plan_of_text() {
+  local words
+  { words=$("$plan" make 2>&1 >&3); } 3>&1 || { echo "$words" >&2; return 1; }
+}
+
 # All of them into a folder, so that nothing here changes where one can't be made.
 make_into() {
   local text name
   for text in *.txt; do
     name=${text%.txt}
-    "$plan" make <"$text" >"$1/$name.plan" || { echo "plans: $text can't be made" >&2; return 1; }
-    if [[ $name != damaged* ]]; then
-      "$plan" show <"$1/$name.plan" | "$plan" make | cmp - "$1/$name.plan"
-    fi
+    plan_of_text <"$text" >"$1/$name.plan" || { echo "plans: $text can't be made" >&2; return 1; }
+    "$plan" show <"$1/$name.plan" | plan_of_text | cmp - "$1/$name.plan"
     damage "$name" "$1/$name.plan"
     "$second" <"$1/$name.plan" >"$1/$name.out"
   done
@@ -51,8 +59,7 @@ made=$(mktemp -d)
 trap 'rm -rf "$made"' EXIT
 build
 make_into "$made"
-case "${1:-}" in
-  "") cp "$made"/* . && echo "plans: $(ls ./*.txt | wc -l) made, with their texts" ;;
+case "$word" in
+  make) cp "$made"/* . && echo "plans: $(ls ./*.txt | wc -l) made, with their texts" ;;
   check) check "$made" && echo "plans: $(ls ./*.txt | wc -l) plans and their texts are what they should be" ;;
-  *) echo "usage: plans/make.sh [check]" >&2; exit 2 ;;
 esac

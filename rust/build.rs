@@ -7,6 +7,6 @@ fn main() {
     let default = || PathBuf::from(env::var("CARGO_MANIFEST_DIR").unwrap()).join("../target/staticlib");
     let folder = env::var("TOLLSALMON_LIB").map_or_else(|_| default(), PathBuf::from);
     println!("cargo:rerun-if-env-changed=TOLLSALMON_LIB");
-    println!("cargo:rerun-if-changed={}", folder.join("libexport.a").display());
+    println!("cargo:rerun-if-changed={}", folder.join("libtollsalmon.a").display());
     println!("cargo:rustc-link-search=native={}", folder.display());
 }

@@ -1,111 +1,51 @@
-//! Tollsalmon for Rust: check a table, check a plan, run a plan to its text or to answers. Every
-//! function here hands lengths that are right by construction to the library (rt staticlib export).
+//! Tollsalmon for Rust: one analysis of a table of tasks, one machine that steps it, one plan file
+//! for both. The proved library does the work; here its numbers and lent memory become types.
+//!
+//! ```
+//! use tollsalmon::{Machine, Mark, Tick};
+//!
+//! let mut machine = Machine::start(&[10, 8, 3, 2])?; // T D C K of each task
+//! let first = machine.step(Tick::arrivals(&[1]))?; // task 1 arrives
+//! assert_eq!(first.to_string(), "0 G1 - 0"); // clock 0: its guest ran
+//! for _ in 1..7 {
+//!     machine.step(Tick::default())?; // and says nothing
+//! }
+//! let last = machine.step(Tick::default())?;
+//! assert_eq!((last.clock, last.mark), (7, Mark::Output)); // so its hypertask gave the output
+//! # Ok::<(), tollsalmon::Refusal>(())
+//! ```
+//!
+//! | To | use |
+//! |---|---|
+//! | know whether a table keeps its deadlines | [`check_table`] |
+//! | run a table tick by tick | [`Machine::start`], [`Machine::step`] |
+//! | run many ticks in one call | [`Machine::ticks`] |
+//! | read, write or run a plan file | [`Plan::read`], [`Plan::write`], [`Plan::run`] |
+//! | have a plan's run as text | [`run_to_text`] |
+//!
+//! Rows are four numbers, T, D, C and K, the highest priority first; tasks are counted from 1.
+//! Whatever is refused is a [`Refusal`]: a number with a name, a place, what it means and what to
+//! do. Nothing here panics but [`Tick::arrivals`], and a step allocates nothing.
+//!
+//! The library lies in the folder that the variable `TOLLSALMON_LIB` names when this package is
+//! built, else in the repository's `target/staticlib`.
 
-#[path = "../../include/tollsalmon.rs"]
-mod interface;
+#![deny(missing_docs, unsafe_code)]
 
-use interface::{
-    tollsalmon_analyse, tollsalmon_check, tollsalmon_report, tollsalmon_script, tollsalmon_start,
-    tollsalmon_table, tollsalmon_ticks,
-};
+mod answer;
+#[allow(unsafe_code)]
+mod library;
+mod machine;
+mod plan;
+mod refusal;
+mod table;
+mod text;
+mod tick;
 
-/// A refusal: its number and its place, as the table of refusals has them.
-#[derive(Clone, Copy, Debug, PartialEq, Eq)]
-pub struct Refusal {
-    pub number: u32,
-    pub place: u64,
-}
-
-/// R, E and G of a task.
-#[derive(Clone, Copy, Debug, PartialEq, Eq)]
-pub struct Response {
-    pub r: u32,
-    pub e: u32,
-    pub g: u32,
-}
-
-/// The answer to one tick, as 12 bytes: clock, refusal place, who, task or refusal, mark, ignored.
-pub type Answer = [u8; 12];
-
-const MOST_TASKS: usize = 32;
-const STATE: usize = 258;
-const RECORD: usize = 8;
-
-fn answered(number: u32, place: u64) -> Result<u64, Refusal> {
-    match number {
-        0 => Ok(place),
-        _ => Err(Refusal { number, place }),
-    }
-}
-
-/// The analysis of a table: R, E and G of each task, or the refusal.
-pub fn check_table(table: &[u32]) -> Result<Vec<Response>, Refusal> {
-    let (mut results, mut place) = ([0u32; 3 * MOST_TASKS], 0);
-    // SAFETY: every pointer is good for the length given with it.
-    let number = unsafe {
-        tollsalmon_analyse(table.as_ptr(), table.len(), results.as_mut_ptr(), results.len(), &mut place)
-    };
-    let tasks = answered(number, place)? as usize;
-    Ok(results.chunks_exact(3).take(tasks).map(|n| Response { r: n[0], e: n[1], g: n[2] }).collect())
-}
-
-/// Whether a plan file is accepted.
-pub fn check_plan(file: &[u8]) -> Result<(), Refusal> {
-    let mut place = 0;
-    // SAFETY: the pointer is good for the length given with it.
-    let number = unsafe { tollsalmon_check(file.as_ptr(), file.len(), &mut place) };
-    answered(number, place).map(|_| ())
-}
-
-/// The whole text of a plan's run.
-pub fn run_to_text(file: &[u8]) -> Vec<u8> {
-    let mut text = Vec::new();
-    loop {
-        // SAFETY: both pointers are good for the lengths given with them.
-        let needed =
-            unsafe { tollsalmon_report(file.as_ptr(), file.len(), text.as_mut_ptr(), text.len()) } as usize;
-        if needed <= text.len() {
-            text.truncate(needed);
-            return text;
-        }
-        text.resize(needed, 0);
-    }
-}
-
-/// The answers to a plan's ticks, one for each record of its script.
-pub fn run_to_answers(file: &[u8]) -> Result<Vec<Answer>, Refusal> {
-    check_plan(file)?;
-    let (table, records) = parts(file);
-    let (mut state, mut place) = ([0u64; STATE], 0);
-    // SAFETY: every pointer is good for the length given with it.
-    let number =
-        unsafe { tollsalmon_start(table.as_ptr(), table.len(), state.as_mut_ptr(), state.len(), &mut place) };
-    answered(number, place)?;
-    let mut answers: Vec<Answer> = vec![[0; 12]; records.len() / RECORD];
-    let room = answers.len() * 12;
-    // SAFETY: every pointer is good for the length given with it.
-    unsafe {
-        tollsalmon_ticks(
-            state.as_mut_ptr(),
-            state.len(),
-            records.as_ptr(),
-            records.len(),
-            answers.as_mut_ptr().cast(),
-            room,
-        )
-    };
-    Ok(answers)
-}
-
-/// The rows' numbers and the script's bytes of an accepted file.
-fn parts(file: &[u8]) -> (Vec<u32>, Vec<u8>) {
-    let (mut table, mut script) = (vec![0; 4 * MOST_TASKS], vec![0; file.len()]);
-    // SAFETY: every pointer is good for the length given with it.
-    unsafe {
-        let numbers = tollsalmon_table(file.as_ptr(), file.len(), table.as_mut_ptr(), table.len());
-        let bytes = tollsalmon_script(file.as_ptr(), file.len(), script.as_mut_ptr(), script.len());
-        table.truncate(numbers as usize);
-        script.truncate(bytes as usize);
-    }
-    (table, script)
-}
+pub use answer::{Answer, Mark, Ran};
+pub use machine::{Machine, Stage};
+pub use plan::{check_plan, Plan, Run, LONGEST_FILE};
+pub use refusal::{Name, Refusal};
+pub use table::{check_table, Response, MOST_TASKS};
+pub use text::run_to_text;
+pub use tick::Tick;

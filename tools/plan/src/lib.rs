@@ -1,4 +1,5 @@
-//! A plan in two forms: the file of document 01, and a text that people write and read.
+//! The text form of a plan, which people write and read. The plan file itself is the library's:
+//! its reader and its writer.
 //!
 //! ```text
 //! rows         # T D C K, the highest priority first
@@ -13,14 +14,14 @@
 //! `0b101`) or `-` for none; the signal is a number from 0 to 255 and the early mark 0 or 1, with
 //! `-` for 0. What a field may be is the analysis's concern: any number of 32 bits is taken.
 
-pub mod file;
+pub mod found;
 pub mod make;
-pub mod plan;
 pub mod show;
 
-#[cfg(test)]
-mod file_cases;
 #[cfg(test)]
 mod round_trips;
 #[cfg(test)]
 mod text_cases;
+
+/// The numbers of a row: T, D, C, K.
+const ROW: usize = 4;

@@ -1,7 +1,9 @@
 //! A plan from its text. Whatever isn't understood is refused with its line; nothing is guessed.
 
-use crate::plan::{Plan, Row, Tick, MOST_ROWS};
+use crate::found::quoted;
+use crate::ROW;
 use std::fmt;
+use tollsalmon::{Name, Plan, Tick, MOST_TASKS};
 
 /// The line, from 1, what was expected there, and what was found.
 #[derive(Clone, Debug, PartialEq, Eq)]
@@ -17,15 +19,44 @@ impl fmt::Display for Nonsense {
     }
 }
 
+/// A tick that the run will refuse: its line, the lowest task that isn't in the table, and how many
+/// rows there are. It is made all the same, since a plan may want to show that.
+#[derive(Clone, Copy, Debug, PartialEq, Eq)]
+pub struct Warning {
+    pub line: usize,
+    pub task: usize,
+    pub rows: usize,
+}
+
+impl fmt::Display for Warning {
+    fn fmt(&self, to: &mut fmt::Formatter) -> fmt::Result {
+        let (Warning { line, task, .. }, rows) = (self, counted_rows(self.rows));
+        let number = Name::NoSuchTask as u32;
+        write!(to, "line {line}: task {task} isn't in the table of {rows}: ")?;
+        write!(to, "the run will refuse this tick with {number}")
+    }
+}
+
+fn counted_rows(rows: usize) -> String {
+    format!("{rows} row{}", if rows == 1 { "" } else { "s" })
+}
+
+#[derive(Clone, Debug, Default, PartialEq, Eq)]
+pub struct Made {
+    pub plan: Plan,
+    pub warnings: Vec<Warning>,
+}
+
 /// What was expected, and what was found. The line is added where it is known.
 type Misfit = (String, String);
 
-fn misfit<T>(expected: impl Into<String>, found: &str) -> Result<T, Misfit> {
-    Err((expected.into(), format!("\"{found}\"")))
+fn misfit<T>(expected: impl Into<String>, found: impl AsRef<[u8]>) -> Result<T, Misfit> {
+    Err((expected.into(), quoted(found.as_ref())))
 }
 
 const A_ROW: &str = "a row of four numbers: T D C K";
 const A_TICK: &str = "a tick: arrivals, signal and early mark, and xN where it comes N times";
+const PLAIN_TEXT: &str = "plain text";
 
 /// What the lines are, from one heading to the next.
 enum Part {
@@ -34,15 +65,18 @@ enum Part {
     Ticks,
 }
 
-pub fn plan_of(text: &[u8]) -> Result<Plan, Nonsense> {
-    let (mut plan, mut part, mut line) = (Plan::default(), Part::BeforeRows, 0);
+pub fn made_of(text: &[u8]) -> Result<Made, Nonsense> {
+    let (mut made, mut part, mut line) = (Made::default(), Part::BeforeRows, 0);
+    check_mark(text)?;
     for bytes in text.split(|byte| *byte == b'\n') {
         line += 1;
         let at_line = |(expected, found)| Nonsense { line, expected, found };
-        let words = words_of(bytes).map_err(at_line)?;
+        let (words, ticks) = (words_of(bytes).map_err(at_line)?, made.plan.script.len());
         if !words.is_empty() {
-            part = take_line(&mut plan, part, &words).map_err(at_line)?;
+            part = take_line(&mut made.plan, part, &words).map_err(at_line)?;
         }
+        let tick = made.plan.script.get(ticks);
+        made.warnings.extend(tick.and_then(|tick| warning(line, &made.plan, tick)));
     }
     let at_the_end = |expected: &str| Nonsense {
         line,
@@ -51,9 +85,27 @@ pub fn plan_of(text: &[u8]) -> Result<Plan, Nonsense> {
     };
     match part {
         Part::BeforeRows => Err(at_the_end("a line \"rows\"")),
-        Part::Rows if plan.rows.is_empty() => Err(at_the_end(A_ROW)),
-        _ => Ok(plan),
+        Part::Rows if made.plan.table.is_empty() => Err(at_the_end(A_ROW)),
+        _ => Ok(made),
     }
+}
+
+/// Some editors put a mark before a text. It can't be seen, so it is told by its name.
+fn check_mark(text: &[u8]) -> Result<(), Nonsense> {
+    let marks: [(&[u8], &str); 3] =
+        [(b"\xEF\xBB\xBF", ""), (b"\xFF\xFE", " of UTF-16"), (b"\xFE\xFF", " of UTF-16")];
+    let Some((_, of)) = marks.iter().find(|(mark, _)| text.starts_with(mark)) else {
+        return Ok(());
+    };
+    let found = format!("a byte order mark{of}: save the text as UTF-8 without one");
+    Err(Nonsense { line: 1, expected: PLAIN_TEXT.to_string(), found })
+}
+
+fn warning(line: usize, plan: &Plan, tick: &Tick) -> Option<Warning> {
+    let rows = plan.table.len() / ROW;
+    let past_the_last = tick.mask.checked_shr(rows as u32).unwrap_or(0);
+    let task = rows + 1 + past_the_last.trailing_zeros() as usize;
+    (past_the_last != 0).then_some(Warning { line, task, rows })
 }
 
 /// The words before a comment.
@@ -61,7 +113,7 @@ fn words_of(line: &[u8]) -> Result<Vec<&str>, Misfit> {
     let before_comment = line.split(|byte| *byte == b'#').next().unwrap_or_default();
     match std::str::from_utf8(before_comment) {
         Ok(words) => Ok(words.split_whitespace().collect()),
-        Err(_) => Err(("plain text".to_string(), "bytes that are none".to_string())),
+        Err(error) => misfit(PLAIN_TEXT, &before_comment[error.valid_up_to()..]),
     }
 }
 
@@ -71,7 +123,7 @@ fn take_line(plan: &mut Plan, part: Part, words: &[&str]) -> Result<Part, Misfit
     match (&part, words) {
         (Part::BeforeRows, ["rows"]) => return Ok(Part::Rows),
         (Part::BeforeRows, _) => return misfit("a line \"rows\"", &line),
-        (Part::Rows, ["ticks"]) if plan.rows.is_empty() => return misfit(A_ROW, &line),
+        (Part::Rows, ["ticks"]) if plan.table.is_empty() => return misfit(A_ROW, &line),
         (Part::Rows, ["ticks"]) => return Ok(Part::Ticks),
         (Part::Rows, _) => take_row(plan, words, &line)?,
         (Part::Ticks, _) => take_ticks(plan, words, &line)?,
@@ -85,11 +137,11 @@ fn take_row(plan: &mut Plan, words: &[&str], line: &str) -> Result<(), Misfit> {
     let [t, d, c, k] = words else {
         return misfit(A_ROW, line);
     };
-    let row: Row = [field(t)?, field(d)?, field(c)?, field(k)?];
-    if plan.rows.len() == MOST_ROWS {
-        return misfit(format!("at most {MOST_ROWS} rows"), line);
+    let row: [u32; ROW] = [field(t)?, field(d)?, field(c)?, field(k)?];
+    if plan.table.len() == ROW * MOST_TASKS {
+        return misfit(format!("at most {MOST_TASKS} rows"), line);
     }
-    plan.rows.push(row);
+    plan.table.extend(row);
     Ok(())
 }
 
@@ -119,14 +171,12 @@ fn take_ticks(plan: &mut Plan, words: &[&str], line: &str) -> Result<(), Misfit>
         _ => return misfit(A_TICK, line),
     };
     let tick = Tick { mask: mask_of(mask)?, signal: signal_of(signal)?, early: early_of(early)? };
-    let most = plan.most_ticks();
-    if times > most - plan.ticks.len() {
-        return misfit(
-            format!("at most {most} ticks, which is what a file of {} rows holds", plan.rows.len()),
-            line,
-        );
+    if times > plan.room() {
+        let rows = counted_rows(plan.table.len() / ROW);
+        let most = plan.script.len() + plan.room();
+        return misfit(format!("at most {most} ticks, which is what a file of {rows} holds"), line);
     }
-    plan.ticks.extend(vec![tick; times]);
+    plan.script.extend(vec![tick; times]);
     Ok(())
 }
 
@@ -147,7 +197,9 @@ fn mask_of(word: &str) -> Result<u32, Misfit> {
     };
     match number {
         Some(mask) => Ok(mask),
-        None => misfit("arrivals: tasks like t1+t3, a mask of 32 bits like 5, 0x5 or 0b101, or -", word),
+        None => {
+            misfit("arrivals: tasks like t1+t3, a mask of 32 bits like 5, 0x5 or 0b101, or -", word)
+        }
     }
 }
 

@@ -1,9 +1,8 @@
 //! A file shown and made again is the same file, and a text made and shown twice is the same text.
 
-use crate::file;
-use crate::make;
-use crate::plan::{Plan, Tick};
+use crate::make::made_of;
 use crate::show::text_of;
+use tollsalmon::{Plan, Tick};
 
 /// Made-up numbers that are the same in every run (splitmix64).
 struct Dice(u64);
@@ -27,31 +26,31 @@ impl Dice {
 
     fn tick(&mut self) -> Tick {
         let bit = 1 << self.below(32);
-        let mask = [0, 0, bit, self.number() as u32, self.number() as u32 % 64, u32::MAX][self.below(6)];
+        let mask =
+            [0, 0, bit, self.number() as u32, self.number() as u32 % 64, u32::MAX][self.below(6)];
         let signal = [0, 0, 1, 255, self.number() as u8][self.below(5)];
         Tick { mask, signal, early: self.below(4) == 0 }
     }
 
     fn plan(&mut self) -> Plan {
         let rows = 1 + self.below(32);
-        let mut plan = Plan { rows: vec![], ticks: vec![] };
-        for _ in 0..rows {
-            plan.rows.push([self.field(), self.field(), self.field(), self.field()]);
-        }
+        let table = (0..4 * rows).map(|_| self.field()).collect();
+        let mut plan = Plan { table, script: vec![] };
         for _ in 0..self.below(12) {
             let times = [1, 1, 2, 1 + self.below(40)][self.below(4)];
-            plan.ticks.extend(vec![self.tick(); times]);
+            plan.script.extend(vec![self.tick(); times]);
         }
         plan
     }
 }
 
 fn assert_round_trips(plan: &Plan) {
-    let bytes = file::bytes_of(plan);
-    assert_eq!(file::plan_of(&bytes).as_ref(), Ok(plan));
-    let text = text_of(plan);
-    let made = make::plan_of(text.as_bytes()).unwrap();
-    assert_eq!(file::bytes_of(&made), bytes);
+    let file = plan.write().unwrap();
+    let shown = Plan::read(&file).unwrap();
+    assert_eq!(&shown, plan);
+    let text = text_of(&shown);
+    let made = made_of(text.as_bytes()).unwrap().plan;
+    assert_eq!(made.write(), Ok(file));
     assert_eq!(text_of(&made), text);
 }
 
@@ -67,11 +66,11 @@ fn made_up_plans() {
 fn the_longest_plans() {
     let mut dice = Dice(2);
     for rows in [1, 2, 31, 32] {
-        let mut plan = Plan { rows: vec![[1, 2, 3, 4]; rows], ticks: vec![] };
-        plan.ticks = (0..plan.most_ticks()).map(|_| dice.tick()).collect();
-        assert_eq!(file::bytes_of(&plan).len(), 65_532);
+        let mut plan = Plan { table: [1, 2, 3, 4].repeat(rows), script: vec![] };
+        plan.script = (0..plan.room()).map(|_| dice.tick()).collect();
+        assert_eq!(plan.write().unwrap().len(), 65_532);
         assert_round_trips(&plan);
-        plan.ticks.fill(Tick::default());
+        plan.script.fill(Tick::default());
         assert_round_trips(&plan);
     }
 }

@@ -1,26 +1,28 @@
 //! The text of a plan in its normal form: the same plan always has the same text.
 
-use crate::plan::{Plan, Row, Tick};
+use crate::ROW;
+use tollsalmon::{Plan, Tick};
 
 /// More tasks than this in one mask are shown as a number.
 const MOST_NAMES: u32 = 8;
 
 pub fn text_of(plan: &Plan) -> String {
     let mut text = "rows    # T D C K, the highest priority first\n".to_string();
-    for row in &plan.rows {
+    for row in plan.table.chunks(ROW) {
         text += &row_line(row);
     }
-    if !plan.ticks.is_empty() {
+    if !plan.script.is_empty() {
         text += "\nticks    # arrivals, signal, early mark\n";
     }
-    for same in plan.ticks.chunk_by(|one, next| one == next) {
+    for same in plan.script.chunk_by(|one, next| one == next) {
         text += &ticks_line(&same[0], same.len());
     }
     text
 }
 
-fn row_line([t, d, c, k]: &Row) -> String {
-    format!("{t} {d} {c} {k}\n")
+fn row_line(row: &[u32]) -> String {
+    let fields: Vec<String> = row.iter().map(u32::to_string).collect();
+    fields.join(" ") + "\n"
 }
 
 fn ticks_line(tick: &Tick, times: usize) -> String {
