@@ -103,9 +103,8 @@ pub extern "C" fn tollsalmon_step(
     let a = s.answer;
     match a {
         Answer::Taken(_) => {
-            let after = s.machine;
             ticks::put_answer(answer, 0, m.clock, a);
-            state::put(state, after);
+            state::put(state, s.machine);
             0
         }
         Answer::Refused(r) => {

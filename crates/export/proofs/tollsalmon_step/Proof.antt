@@ -5,14 +5,6 @@ use Rattle.export.proofs.Ends.{read-says, read-machine, step-early, ste
 use borrow.Author.Needs.{needs}
 use Rattle.export.proofs.tollsalmon_step.Statement.{statement}
 use Rattle.export.proofs.tollsalmon_step.Tie as tie
-use Rattle.export.proofs.tollsalmon_step.Reads as reads
-use Rattle.export.proofs.tollsalmon_step.Lts as lts
-use Rattle.export.proofs.state.put.Reads as put-reads
-use Rattle.export.proofs.state.read.Reads as read-reads
-use Rattle.export.proofs.ticks.put_answer.Reads as put-answer-reads
-use Rattle.machine.proofs.Machine.step.Reads as step-reads
-use Rattle.refusals.proofs.Refusal.number.Reads as number-reads
-use Rattle.refusals.proofs.Refusal.place.Reads as place-reads
 
 -- src/lib.rt:91:9
 returns : tie.Need-returns
@@ -58,7 +50,7 @@ put-answer-requires c κs = search needs
 -- src/lib.rt:108:13
 put-requires : tie.Need-put-requires
 put-requires c κs =
-    let x = c .before .before .before .before .before .before .before .before .before .before in
+    let x = c .before .before .before .before .before .before .before .before .before in
     let s = now (x .before .before .before .before .before .before .before .before .args .state) in
     let d = x .before .before .read in
     can-read s (read-says s (d .result) _ (d .ensures) (not-false _ (x .if3 .left))) .long
@@ -87,7 +79,7 @@ same-length-3 c = search needs
 returns-4 : tie.Need-returns-4
 returns-4 c =
     let y = c .before .before .before .before .before .before in
-    let z = y .before .before .before .before .before in
+    let z = y .before .before .before .before in
     let x = z .before .before .before .before in
     let a = x .before .before .before .before .before .before .args in
     let s = now (a .state) in
@@ -95,7 +87,7 @@ returns-4 c =
     let h = read-says s (d .result) _ (d .ensures) (not-false _ (z .before .before .if3 .left)) in
     step-taken s (a .mask) (a .signal) (a .early) (now (a .answer)) (d .result .machine) (z .step .result) _ _ _
     (x .before .before .before .if1 .left) (x .before .before .if2 .left) h (read-machine s (d .result) (d .ensures) h)
-    (z .step .ensures) (y .before .before .before .enum-told .given .1) (c .before .before .put .ensures) (y .put-answer .ensures)
+    (z .step .ensures) (y .before .before .enum-told .given .1) (c .before .before .put .ensures) (y .put-answer .ensures)
 
 -- src/lib.rt:76:1
 same-length-4 : tie.Need-same-length-4

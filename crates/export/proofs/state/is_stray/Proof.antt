@@ -2,8 +2,6 @@ use borrow.Author.Tests.{eq-eqb, ne-eqb}
 use Rattle.export.specs.State.{stray}
 use Rattle.export.proofs.state.is_stray.Statement.{statement}
 use Rattle.export.proofs.state.is_stray.Tie as tie
-use Rattle.export.proofs.state.is_stray.Reads as reads
-use Rattle.export.proofs.state.is_stray.Lts as lts
 
 -- src/state.rt:112:9
 returns : tie.Need-returns
