@@ -61,12 +61,16 @@ fourNumbers =
     ++ (40 ∷ 39 ∷ 6 ∷ 1 ∷ 7 ∷ 3 ∷ 4 ∷ 0 ∷ [])
     ++ replicate 224 0
 
+-- count, clock and one row; all other places are blank
+abbrev pub oneRow : List ℕ → List ℕ
+oneRow l = l ++ replicate 248 0
+
 -- a fresh machine of P2, and with its task a Guest at 0, one tick used
 abbrev pub p2Fresh : List ℕ
-p2Fresh = (1 ∷ 0 ∷ 10 ∷ 8 ∷ 3 ∷ 2 ∷ 6 ∷ 0 ∷ 0 ∷ 0 ∷ []) ++ replicate 248 0
+p2Fresh = oneRow (1 ∷ 0 ∷ 10 ∷ 8 ∷ 3 ∷ 2 ∷ 6 ∷ 0 ∷ 0 ∷ 0 ∷ [])
 
 abbrev pub p2Arrived : List ℕ
-p2Arrived = (1 ∷ 1 ∷ 10 ∷ 8 ∷ 3 ∷ 2 ∷ 6 ∷ 1 ∷ 0 ∷ 1 ∷ []) ++ replicate 248 0
+p2Arrived = oneRow (1 ∷ 1 ∷ 10 ∷ 8 ∷ 3 ∷ 2 ∷ 6 ∷ 1 ∷ 0 ∷ 1 ∷ [])
 
 -- and with a number that isn't 0 in a place past the last row
 abbrev pub p2Stray : List ℕ
@@ -149,7 +153,7 @@ stepWrites state mask signal early lent =
 
 -- one row, T 10, D 9, C 3, K 3, E 6; its job came at 0, and its hypertask has run once of three
 abbrev pub begunAt : ℕ → List ℕ
-begunAt clock = (1 ∷ clock ∷ 10 ∷ 9 ∷ 3 ∷ 3 ∷ 6 ∷ 2 ∷ 0 ∷ 2 ∷ []) ++ replicate 248 0
+begunAt clock = oneRow (1 ∷ clock ∷ 10 ∷ 9 ∷ 3 ∷ 3 ∷ 6 ∷ 2 ∷ 0 ∷ 2 ∷ [])
 
 pub record StepsRight : Type 0 where
   -- the first tick of P2 brings its arrival: 12 bytes, and the one past them as it was lent
@@ -158,13 +162,13 @@ pub record StepsRight : Type 0 where
   pub arrival-answer : stepWrites p2Fresh 1 0 0 (replicate 13 9) ≡ guestAt 0 ++ (9 ∷ [])
   -- the guest gives its output; a number past the 258 stays
   pub output : stepSays p2Arrived 0 1 0 12 ≡ 0 ∷ 0 ∷ []
-  pub output-state : stepLeaves (p2Arrived ++ (9 ∷ [])) 0 1 0 12 ≡ (1 ∷ 2 ∷ 10 ∷ 8 ∷ 3 ∷ 2 ∷ 6 ∷ 3 ∷ 0 ∷ 0 ∷ []) ++ replicate 248 0 ++ (9 ∷ [])
+  pub output-state : stepLeaves (p2Arrived ++ (9 ∷ [])) 0 1 0 12 ≡ oneRow (1 ∷ 2 ∷ 10 ∷ 8 ∷ 3 ∷ 2 ∷ 6 ∷ 3 ∷ 0 ∷ 0 ∷ []) ++ (9 ∷ [])
   pub output-answer : stepWrites p2Arrived 0 1 0 (replicate 12 9) ≡ 1 ∷ 0 ∷ 0 ∷ 0 ∷ 0 ∷ 0 ∷ 0 ∷ 0 ∷ 1 ∷ 1 ∷ 1 ∷ 0 ∷ []
   -- a hypertask that has begun, two ticks left: with the early-end mark it gives its output now, without it one is left
   pub early : stepSays (begunAt 7) 0 0 1 12 ≡ 0 ∷ 0 ∷ []
-  pub early-state : stepLeaves (begunAt 7) 0 0 1 12 ≡ (1 ∷ 8 ∷ 10 ∷ 9 ∷ 3 ∷ 3 ∷ 6 ∷ 3 ∷ 0 ∷ 0 ∷ []) ++ replicate 248 0
+  pub early-state : stepLeaves (begunAt 7) 0 0 1 12 ≡ oneRow (1 ∷ 8 ∷ 10 ∷ 9 ∷ 3 ∷ 3 ∷ 6 ∷ 3 ∷ 0 ∷ 0 ∷ [])
   pub early-answer : stepWrites (begunAt 7) 0 0 1 (replicate 12 9) ≡ 7 ∷ 0 ∷ 0 ∷ 0 ∷ 0 ∷ 0 ∷ 0 ∷ 0 ∷ 2 ∷ 1 ∷ 1 ∷ 0 ∷ []
-  pub silent-state : stepLeaves (begunAt 7) 0 0 0 12 ≡ (1 ∷ 8 ∷ 10 ∷ 9 ∷ 3 ∷ 3 ∷ 6 ∷ 2 ∷ 0 ∷ 1 ∷ []) ++ replicate 248 0
+  pub silent-state : stepLeaves (begunAt 7) 0 0 0 12 ≡ oneRow (1 ∷ 8 ∷ 10 ∷ 9 ∷ 3 ∷ 3 ∷ 6 ∷ 2 ∷ 0 ∷ 1 ∷ [])
   pub silent-answer : stepWrites (begunAt 7) 0 0 0 (replicate 12 9) ≡ 7 ∷ 0 ∷ 0 ∷ 0 ∷ 0 ∷ 0 ∷ 0 ∷ 0 ∷ 2 ∷ 1 ∷ 0 ∷ 0 ∷ []
   -- an early mark above 1, also before a short answer and a state that can't be read
   pub wrong-early : (stepSays p2Fresh 1 0 2 13 ≡ 17 ∷ 0 ∷ []) × (stepSays p2Stray 1 0 2 11 ≡ 17 ∷ 0 ∷ [])
