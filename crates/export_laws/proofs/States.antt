@@ -27,6 +27,7 @@ use Rattle.export.specs.Files.{refusalPlace}
 use Rattle.export.specs.State.{stateOf, rowIn, machineIn, stray, unreadable, readable}
 use Rattle.export.specs.Step.{stepIn, refusalIn, stepRefusal, StepsMachine}
 use Rattle.export.specs.Ticks.{answerBytes, stepBy, machineAfter, answerTo, ticksRefusal, ticksTaken, stateAfter, TakesTicks}
+use Rattle.export_laws.specs.Cases.{fourNumbers}
 use Rattle.export_laws.specs.States.{Held, ReadsExactly, IsRefused, tickRecord, LeavesSame, Met}
 use Rattle.export_laws.proofs.Reading.{told-again, held-again, told-readable, told-machine}
 
@@ -154,6 +155,7 @@ unfolding firstWhere listOf flat age firstFrom mapFrom every howMany fieldsFit s
     numberAt stateOf rowIn machineIn stray unreadable readable stepRefusal machineAfter answerTo ticksTaken
 met =
     record {
+      told = reads-exactly fourNumbers .read refl;
       run = record { answers = refl; places = refl; leaves = refl; writes = refl };
       refused = record { why = Refusal.NoSuchTask 6; refused = refl };
       no-refusal = refl;

@@ -16,7 +16,7 @@ use Rattle.plan.specs.Bodies.{tickAt}
 use Rattle.export.specs.State.{stateOf, machineIn, readable}
 use Rattle.export.specs.Step.{stepIn, stepRefusal, stateStepped, answerStepped, StepsMachine}
 use Rattle.export.specs.Ticks.{stepBy, ticksTaken, stateAfter, answersAfter, TakesTicks}
-use Rattle.export_laws.specs.Cases.{p2Fresh, p2Arrived, guestAt}
+use Rattle.export_laws.specs.Cases.{four, fourNumbers, p2Fresh, p2Arrived, guestAt}
 
 -- ## Reading
 
@@ -63,8 +63,9 @@ pub record LeavesSame (state : List ℕ) (mask signal early : ℕ) (lent : List 
 
 -- ## What is asked for does happen
 
--- on a fresh machine of P2: a run whose one tick is refused with 10 at 6, and a step that is taken
+-- numbers that tell a machine; on a fresh machine of P2 a run whose one tick is refused with 10 at 6, and a step that is taken
 pub record Met : Type 0 where
+  pub told : Tells fourNumbers four
   pub run : TakesTicks p2Fresh (tickRecord 32 0 0) (replicate 13 9) 0 1 p2Fresh
       (0 ∷ 0 ∷ 0 ∷ 0 ∷ 6 ∷ 0 ∷ 0 ∷ 0 ∷ 3 ∷ 10 ∷ 0 ∷ 0 ∷ 9 ∷ [])
   pub refused : IsRefused p2Fresh (tickRecord 32 0 0) 0
