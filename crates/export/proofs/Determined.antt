@@ -11,6 +11,7 @@ use Rattle.export.specs.Files.{ChecksFile, ReadsTable, ReadsScript, Writ
 use Rattle.export.specs.Numbers.{AnalysesTable}
 use Rattle.export.specs.Start.{StartsMachine}
 use Rattle.export.specs.State.{readOf}
+use Rattle.export.specs.Step.{StepsMachine}
 use Rattle.export.specs.Texts.{PrintsRun}
 use Rattle.export.specs.Ticks.{whoOf, taskOf, markOf, bitOf, TakesTicks}
 
@@ -29,12 +30,19 @@ pub tollsalmon-start-determined : (table state : List ℕ) (a b i j : ℕ) (x y 
 tollsalmon-start-determined table state a b i j x y p q = (p .answers ∙ sym (q .answers), p .places ∙ sym (q .places), p .leaves ∙ sym (q .leaves))
 
 -- u and v are the lent answers afterwards
-pub tollsalmon-ticks-determined : (state records lent : List ℕ) (a b : ℕ) (x y u v : List ℕ)
-    → TakesTicks state records lent a x u
-    → TakesTicks state records lent b y v
-    → (a ≡ b) × (x ≡ y) × (u ≡ v)
-tollsalmon-ticks-determined state records lent a b x y u v p q =
-    (p .answers ∙ sym (q .answers), p .leaves ∙ sym (q .leaves), p .writes ∙ sym (q .writes))
+pub tollsalmon-ticks-determined : (state records lent : List ℕ) (a b i j : ℕ) (x y u v : List ℕ)
+    → TakesTicks state records lent a i x u
+    → TakesTicks state records lent b j y v
+    → (a ≡ b) × (i ≡ j) × (x ≡ y) × (u ≡ v)
+tollsalmon-ticks-determined state records lent a b i j x y u v p q =
+    (p .answers ∙ sym (q .answers), p .places ∙ sym (q .places), p .leaves ∙ sym (q .leaves), p .writes ∙ sym (q .writes))
+
+pub tollsalmon-step-determined : (state : List ℕ) (mask signal early : ℕ) (lent : List ℕ) (a b i j : ℕ) (x y u v : List ℕ)
+    → StepsMachine state mask signal early lent a i x u
+    → StepsMachine state mask signal early lent b j y v
+    → (a ≡ b) × (i ≡ j) × (x ≡ y) × (u ≡ v)
+tollsalmon-step-determined state mask signal early lent a b i j x y u v p q =
+    (p .answers ∙ sym (q .answers), p .places ∙ sym (q .places), p .leaves ∙ sym (q .leaves), p .writes ∙ sym (q .writes))
 
 pub tollsalmon-check-determined : (file : List ℕ) (a b i j : ℕ) → ChecksFile file a i → ChecksFile file b j → (a ≡ b) × (i ≡ j)
 tollsalmon-check-determined file a b i j p q = (p .answers ∙ sym (q .answers), p .places ∙ sym (q .places))

@@ -21,7 +21,7 @@ use Rattle.machine.specs.declared.Row.{Row}
 use Rattle.machine.specs.declared.Machine.{Machine}
 use Rattle.plan.proofs.Tests.{or-inv}
 use Rattle.export.specs.declared.state.Head.{Head}
-use Rattle.export.specs.State.{placeNumbers, stateOf, stageIn, numberIn, rowIn, machineIn, unreadable, isNone, readable, headOf, readOf}
+use Rattle.export.specs.State.{placeNumbers, stateOf, stageIn, numberIn, rowIn, machineIn, stray, unreadable, isNone, readable, headOf, readOf}
 
 -- ## To numbers
 
@@ -64,13 +64,15 @@ put-all (x ∷ y ∷ s) m h = refl
 
 -- ## From numbers
 
--- a place that can be read has fields of 32 bits
+-- a place that can be read has fields of 32 bits, a stage, and no number without a use
 pub record Fields (l : List ℕ) (i : ℕ) : Type 0 where
   pub t-fits : numberIn l i 0 < 4294967296
   pub d-fits : numberIn l i 1 < 4294967296
   pub c-fits : numberIn l i 2 < 4294967296
   pub k-fits : numberIn l i 3 < 4294967296
   pub e-fits : numberIn l i 4 < 4294967296
+  pub stage-known : numberIn l i 5 ≤ 3
+  pub none-stray : stray (numberIn l i 5) (numberIn l i 6) (numberIn l i 7) ≡ false
 
 pub fields : (l : List ℕ) (i : ℕ) → unreadable l i ≡ false → Fields l i
 unfolding unreadable
@@ -80,12 +82,15 @@ fields l i h =
     let c = or-inv (leb 4294967296 (numberIn l i 2)) _ (b .1) in
     let d = or-inv (leb 4294967296 (numberIn l i 3)) _ (c .1) in
     let e = or-inv (leb 4294967296 (numberIn l i 4)) _ (d .1) in
+    let f = or-inv (ltb 3 (numberIn l i 5)) _ (e .1) in
     record {
       t-fits = leb-false 4294967296 (numberIn l i 0) (a .0);
       d-fits = leb-false 4294967296 (numberIn l i 1) (b .0);
       c-fits = leb-false 4294967296 (numberIn l i 2) (c .0);
       k-fits = leb-false 4294967296 (numberIn l i 3) (d .0);
       e-fits = leb-false 4294967296 (numberIn l i 4) (e .0);
+      stage-known = ltb-false 3 (numberIn l i 5) (f .0);
+      none-stray = f .1;
     }
 
 pub too-few : (l : List ℕ) → length l < 258 → false ≡ readable l

@@ -71,11 +71,16 @@ rowIn l i =
 unfoldable pub machineIn : List ℕ → Machine
 machineIn l = record { rows = listOf (rowIn l) 32; count = getD l 0 0; clock = getD l 1 0 }
 
--- a place that can't be read: a field of 2^32 or more, or no such stage
+-- a number that its stage has no use for and that isn't 0: Never has neither arrival nor ticks, Closed has no ticks
+unfoldable pub stray : ℕ → ℕ → ℕ → Bool
+stray stage arrival ticks = cond (eqb stage 0) (ltb 0 arrival || ltb 0 ticks) (cond (eqb stage 3) (ltb 0 ticks) false)
+
+-- a place that can't be read: a field of 2^32 or more, no such stage, or a number without a use
 unfoldable pub unreadable : List ℕ → ℕ → Bool
 unreadable l i =
     leb 4294967296 (numberIn l i 0) || (leb 4294967296 (numberIn l i 1) || (leb 4294967296 (numberIn l i 2)
-    || (leb 4294967296 (numberIn l i 3) || (leb 4294967296 (numberIn l i 4) || ltb 3 (numberIn l i 5)))))
+    || (leb 4294967296 (numberIn l i 3) || (leb 4294967296 (numberIn l i 4)
+    || (ltb 3 (numberIn l i 5) || stray (numberIn l i 5) (numberIn l i 6) (numberIn l i 7))))))
 
 abbrev pub isNone : Option ℕ → Bool
 isNone none = true

@@ -4,11 +4,14 @@
 use mathlib.Core.Path.{_≡_}
 use mathlib.Core.Bool.{Bool, true, false, cond}
 use mathlib.Core.List.{List, [], _∷_, _++_}
+use mathlib.Core.Option.{Option, none, some}
 use Prim.Native.Nat.{ℕ, zero, suc, _*_, _/_, _%_, min}
 use lib.Dec.{eqb}
 use lib.ListN.{length, drop}
 use Rattle.least.specs.Lists.{flat}
 use Rattle.refusals.specs.Refusals.{numberOf, placeOf}
+use Rattle.refusals.specs.declared.Refusal.{Refusal}
+use Rattle.refusals.specs.declared.Refusal.the-variants.{NotWellFormed}
 use Rattle.plan.specs.Numbers.{bytesOf}
 use Rattle.plan.specs.Bodies.{tickAt}
 use Rattle.plan.specs.declared.Tick.{Tick}
@@ -19,6 +22,7 @@ use Rattle.machine.specs.declared.Taken.{Taken}
 use Rattle.machine.specs.declared.Answer.{Answer}
 use Rattle.machine.specs.declared.Machine.{Machine}
 use Rattle.machine.specs.declared.Stepped.{Stepped}
+use Rattle.export.specs.Files.{refusalNumber, refusalPlace}
 use Rattle.export.specs.State.{stateOf, machineIn, readable}
 
 -- ## An answer
@@ -64,7 +68,11 @@ machineAfter m records (suc i) = stepBy (machineAfter m records i) (tickAt recor
 unfoldable pub answerTo : Machine → List ℕ → ℕ → List ℕ
 answerTo m records i = answerBytes (machineAfter m records i .clock) (stepBy (machineAfter m records i) (tickAt records i) .answer)
 
--- ## What is left in lent memory
+-- ## A run of records: what is answered, and what is left in lent memory
+
+-- a state that can't be read is not well formed
+abbrev pub ticksRefusal : List ℕ → Option Refusal
+ticksRefusal state = cond (readable state) none (some (NotWellFormed 0))
 
 -- a tick for each whole record that has room for its whole answer; none from a state that can't be read
 unfoldable pub ticksTaken : List ℕ → ℕ → ℕ → ℕ
@@ -76,8 +84,9 @@ stateAfter state records n = cond (eqb n 0) state (stateOf (machineAfter (machin
 abbrev pub answersAfter : List ℕ → List ℕ → List ℕ → ℕ → List ℕ
 answersAfter state records answers n = flat (answerTo (machineIn state) records) n ++ drop (12 * n) answers
 
--- what `tollsalmon_ticks` promises
-pub record TakesTicks (state records lent : List ℕ) (taken : ℕ) (stateLeft answersLeft : List ℕ) : Type 0 where
-  pub answers : taken ≡ ticksTaken state (length records) (length lent)
+-- what `tollsalmon_ticks` promises: 0 and how many ticks, or the refusal
+pub record TakesTicks (state records lent : List ℕ) (answer place : ℕ) (stateLeft answersLeft : List ℕ) : Type 0 where
+  pub answers : answer ≡ refusalNumber (ticksRefusal state)
+  pub places : place ≡ refusalPlace (ticksRefusal state) (ticksTaken state (length records) (length lent))
   pub leaves : stateLeft ≡ stateAfter state records (ticksTaken state (length records) (length lent))
   pub writes : answersLeft ≡ answersAfter state records lent (ticksTaken state (length records) (length lent))

@@ -4,12 +4,13 @@ mod files;
 pub mod state;
 pub mod ticks;
 
-use plan::Answer;
+use machine::Answer;
 use plan::Writing;
 use report::Reported;
 ghost use Rattle.export.specs.Files.{ChecksFile, ReadsTable, ReadsScript, WritesFile};
 ghost use Rattle.export.specs.Numbers.{AnalysesTable};
 ghost use Rattle.export.specs.Start.{StartsMachine};
+ghost use Rattle.export.specs.Step.{StepsMachine};
 ghost use Rattle.export.specs.Texts.{PrintsRun};
 ghost use Rattle.export.specs.Ticks.{TakesTicks};
 
@@ -41,23 +42,76 @@ pub extern "C" fn tollsalmon_start(table: &[u32], state: &mut [u64], place: &mut
     answers::number_in(a)
 }
 
-// The ticks of a run of records from the machine in lent numbers, their answers to the front of lent bytes; how many were taken.
+// The ticks of a run of records from the machine in lent numbers, their answers to the front of lent bytes: 0 and how many, or 8
+// for a state that can't be read.
 #[no_mangle]
-pub extern "C" fn tollsalmon_ticks(state: &mut [u64], records: &[u8], answers: &mut [u8]) -> u64
-    ensures { λ r. ⌜ TakesTicks (now (state .entry)) (now (records .entry)) (now (answers .entry)) r (now (state .exit)) (now (answers .exit)) ⌝ }
+pub extern "C" fn tollsalmon_ticks(
+    state: &mut [u64],
+    records: &[u8],
+    answers: &mut [u8],
+    place: &mut u64,
+) -> u32
+    ensures { λ r. ⌜
+        TakesTicks (now (state .entry)) (now (records .entry)) (now (answers .entry)) r (now (place .exit)) (now (state .exit)) (now (answers .exit))
+        ⌝ }
 {
     let read = state::read(state);
     let n = ticks::how_many(records.len(), answers.len());
     if !read.ok {
-        return 0;
+        *place = 0;
+        return 8;
     }
+    *place = n as u64;
     if n == 0 {
         return 0;
     }
     let m = read.machine;
     let after = ticks::run(m, records, answers, n);
     state::put(state, after);
-    n as u64
+    0
+}
+
+// One tick from the machine in lent numbers, its answer to the front of lent bytes: 0, or the refusal's number and place, and then
+// nothing is touched.
+#[no_mangle]
+pub extern "C" fn tollsalmon_step(
+    state: &mut [u64],
+    mask: u32,
+    signal: u8,
+    early: u8,
+    answer: &mut [u8],
+    place: &mut u64,
+) -> u32
+    ensures { λ r. ⌜
+        StepsMachine (now (state .entry)) mask signal early (now (answer .entry)) r (now (place .exit)) (now (state .exit)) (now (answer .exit))
+        ⌝ }
+{
+    *place = 0;
+    if 1 < early {
+        return 17;
+    }
+    if answer.len() < 12 {
+        *place = 12;
+        return 18;
+    }
+    let read = state::read(state);
+    if !read.ok {
+        return 8;
+    }
+    let m = read.machine;
+    let s = m.step(mask, signal, early == 1);
+    let a = s.answer;
+    match a {
+        Answer::Taken(_) => {
+            ticks::put_answer(answer, 0, m.clock, a);
+            state::put(state, s.machine);
+            0
+        }
+        Answer::Refused(r) => {
+            *place = r.place() as u64;
+            r.number()
+        }
+    }
 }
 
 // Whether bytes are a plan file: 0 and place 0, or the refusal's number and place.
@@ -66,11 +120,11 @@ pub extern "C" fn tollsalmon_check(file: &[u8], place: &mut u64) -> u32
     ensures { λ r. ⌜ ChecksFile (now (file .entry)) r (now (place .exit)) ⌝ }
 {
     match plan::reader::check(file) {
-        Answer::Accepted => {
+        plan::Answer::Accepted => {
             *place = 0;
             0
         }
-        Answer::Refused(r) => {
+        plan::Answer::Refused(r) => {
             *place = r.place() as u64;
             r.number()
         }

@@ -9,7 +9,7 @@ ghost use mathlib.Core.List.{[], _∷_, _++_};
 ghost use lib.ListN.{length, getD, take, drop};
 ghost use Rattle.least.specs.Lists.{listOf, flat};
 ghost use Rattle.export.specs.State.{stageNumber, arrivalNumber, ticksNumber, rowNumbers, placeNumbers, stateOf, stageIn, numberIn};
-ghost use Rattle.export.specs.State.{rowIn, unreadable, readable, headOf, readOf};
+ghost use Rattle.export.specs.State.{rowIn, stray, unreadable, readable, headOf, readOf};
 
 // The machine of lent numbers where it can be read, else the machine with no rows.
 pub struct Reading {
@@ -104,16 +104,31 @@ fn number(state: &[u64], i: usize, k: usize) -> u64
     state[2 + 8 * i + k]
 }
 
+// Whether a number isn't 0 that the stage has no use for.
+fn is_stray(stage: u64, arrival: u64, ticks: u64) -> bool
+    ensures { λ r. ⌜ r ≡ stray stage arrival ticks ⌝ }
+{
+    if stage == 0 {
+        return (0 < arrival) | (0 < ticks);
+    }
+    if stage == 3 {
+        return 0 < ticks;
+    }
+    false
+}
+
 // Whether place i can't be read.
 fn is_unreadable(state: &[u64], i: usize) -> bool
     requires { ⌜ (258 ≤ length (now state)) × (i < 32) ⌝ }
     ensures { λ r. ⌜ r ≡ unreadable (now (state .entry)) i ⌝ }
 {
+    let stage = number(state, i, 5);
+    let stray = is_stray(stage, number(state, i, 6), number(state, i, 7));
     (4294967296 <= number(state, i, 0))
         | ((4294967296 <= number(state, i, 1))
             | ((4294967296 <= number(state, i, 2))
                 | ((4294967296 <= number(state, i, 3))
-                    | ((4294967296 <= number(state, i, 4)) | (3 < number(state, i, 5))))))
+                    | ((4294967296 <= number(state, i, 4)) | ((3 < stage) | stray)))))
 }
 
 // Whether a machine can be read.

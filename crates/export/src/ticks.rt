@@ -115,7 +115,7 @@ fn put_said(answers: &mut [u8], at: usize, a: Answer)
 }
 
 // The answer to the tick at a clock, in twelve bytes from `at` on.
-fn put_answer(answers: &mut [u8], at: usize, clock: u64, a: Answer)
+pub(crate) fn put_answer(answers: &mut [u8], at: usize, clock: u64, a: Answer)
     requires { ⌜ at + 12 ≤ length (now answers) ⌝ }
     ensures { λ _. ⌜ now (answers .exit) ≡ take at (now (answers .entry)) ++ answerBytes clock a ++ drop (at + 12) (now (answers .entry)) ⌝ }
 {

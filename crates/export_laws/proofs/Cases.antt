@@ -15,16 +15,17 @@ use Rattle.plan.specs.Numbers.{numberAt}
 use Rattle.plan.specs.PlanFile.{sectionsFrom, sectionsOf, bodyOf, wrongKind, startAt, wrongRecord, firstWrongRecord, asked, firstEntry}
 use Rattle.plan.specs.PlanFile.{entriesRefusal, readRefusal, partOf}
 use Rattle.export.specs.Start.{startSays, stateStarted}
-use Rattle.export.specs.State.{stateOf, rowIn, machineIn, unreadable, readable}
+use Rattle.export.specs.State.{stateOf, rowIn, machineIn, stray, unreadable, readable}
 use Rattle.export.specs.Files.{toFront}
+use Rattle.export.specs.Step.{stepRefusal}
 use Rattle.export.specs.Ticks.{machineAfter, answerTo, ticksTaken}
-use Rattle.export_laws.specs.Cases.{AnswersRight, StatesRight, FunctionsRight}
+use Rattle.export_laws.specs.Cases.{AnswersRight, StatesRight, FunctionsRight, StepsRight}
 
 pub answers-right : AnswersRight
 answers-right = record { guest = refl; guest-output = refl; budget-used = refl; hypertask = refl; nobody = refl; refusal = refl }
 
 pub states-right : StatesRight
-unfolding firstWhere listOf flat stateOf rowIn machineIn unreadable readable
+unfolding firstWhere listOf flat stateOf rowIn machineIn stray unreadable readable
 states-right =
     record {
       to-numbers = refl;
@@ -38,6 +39,16 @@ states-right =
       wide-e = refl;
       largest-field = refl;
       no-stage = refl;
+      never-arrival = refl;
+      never-ticks = refl;
+      closed-ticks = refl;
+      past-last = refl;
+      very-last = refl;
+      guest-arrival = refl;
+      guest-ticks = refl;
+      hyper-arrival = refl;
+      hyper-ticks = (refl, refl);
+      closed-arrival = (refl, refl);
     }
 
 pub functions-right : FunctionsRight
@@ -45,7 +56,7 @@ unfolding firstWhere up sum largest listOf flat B demand activeSide activePeriod
     begunByHypertask begunByGuest bound below F windowSide WA WE guest tableCheck rowByRow hypertaskCheck guestCheck solved
     age firstFrom mapFrom every howMany fieldsFit stageFits isBlank wellFormed verdict chosen turned taken stepOf freshRows freshAt
     rowOf startAnswer startOf numberAt sectionsFrom sectionsOf bodyOf wrongKind startAt wrongRecord firstWrongRecord asked firstEntry
-    entriesRefusal readRefusal partOf startSays stateStarted stateOf rowIn machineIn unreadable readable toFront machineAfter answerTo ticksTaken
+    entriesRefusal readRefusal partOf startSays stateStarted stateOf rowIn machineIn stray unreadable readable toFront machineAfter answerTo ticksTaken
 functions-right =
     record {
       accepted = (refl, refl);
@@ -57,6 +68,10 @@ functions-right =
       ticks = refl;
       tick-state = refl;
       tick-answers = refl;
+      unread = (refl, refl);
+      unread-none = refl;
+      unread-state = refl;
+      unread-answers = refl;
       file-accepted = (refl, refl);
       file-refused = (refl, refl);
       table-part = refl;
@@ -64,4 +79,31 @@ functions-right =
       no-parts = (refl, refl);
       fits = refl;
       fits-not = refl;
+    }
+
+pub steps-right : StepsRight
+unfolding firstWhere listOf flat age firstFrom mapFrom every howMany fieldsFit stageFits isBlank wellFormed verdict chosen turned taken stepOf
+    stateOf rowIn machineIn stray unreadable readable stepRefusal
+steps-right =
+    record {
+      arrival = refl;
+      arrival-state = refl;
+      arrival-answer = refl;
+      output = refl;
+      output-state = refl;
+      output-answer = refl;
+      early = refl;
+      early-state = refl;
+      early-answer = refl;
+      silent-state = refl;
+      silent-answer = refl;
+      wrong-early = (refl, refl);
+      short-answer = (refl, refl);
+      unread = (refl, refl);
+      clock-at-end = refl;
+      no-task = refl;
+      too-soon = refl;
+      while-hyper = refl;
+      unread-left = (refl, refl);
+      too-soon-left = (refl, refl);
     }

@@ -4,23 +4,23 @@ use borrow.Author.Needs.{needs}
 use Rattle.export.proofs.tollsalmon_analyse.Statement.{statement}
 use Rattle.export.proofs.tollsalmon_analyse.Tie as tie
 
--- src/lib.rt:27:9
+-- src/lib.rt:22:9
 analyse-requires : tie.Need-analyse-requires
 analyse-requires c κs = search needs
 
--- src/lib.rt:28:14
+-- src/lib.rt:23:14
 place-in-requires : tie.Need-place-in-requires
 place-in-requires c κs = search needs
 
--- src/lib.rt:29:5
+-- src/lib.rt:24:5
 number-in-requires : tie.Need-number-in-requires
 number-in-requires c κs = search needs
 
--- src/lib.rt:21:1
+-- src/lib.rt:18:1
 same-length : tie.Need-same-length
 same-length c = search needs
 
--- src/lib.rt:21:1
+-- src/lib.rt:18:1
 returns : tie.Need-returns
 returns c =
     let r = c .before .before .before .before .analyse in

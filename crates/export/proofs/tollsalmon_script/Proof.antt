@@ -7,26 +7,26 @@ use borrow.Author.Needs.{needs}
 use Rattle.export.proofs.tollsalmon_script.Statement.{statement}
 use Rattle.export.proofs.tollsalmon_script.Tie as tie
 
--- src/lib.rt:108:9
+-- src/lib.rt:149:9
 script-of-requires : tie.Need-script-of-requires
 script-of-requires c κs = search needs
 
--- src/lib.rt:110:9
+-- src/lib.rt:151:9
 returns : tie.Need-returns
 returns c =
     let a = c .before .before .before .before .args in
     let p = c .before .script-of in
     record { answers = ap length (p .ensures); leaves = part-short (partOf scriptKind (now (a .file))) _ (now (a .script)) (p .ensures) (c .if1 .taken) }
 
--- src/lib.rt:112:5
+-- src/lib.rt:153:5
 copy-requires : tie.Need-copy-requires
 copy-requires c κs = search needs
 
--- src/lib.rt:103:1
+-- src/lib.rt:145:1
 same-length : tie.Need-same-length
 same-length c = search needs
 
--- src/lib.rt:103:1
+-- src/lib.rt:145:1
 returns-2 : tie.Need-returns-2
 returns-2 c =
     let a = c .before .before .before .before .before .before .before .before .args in

@@ -6,19 +6,19 @@ use borrow.Author.Needs.{needs}
 use Rattle.export.proofs.tollsalmon_table.Statement.{statement}
 use Rattle.export.proofs.tollsalmon_table.Tie as tie
 
--- src/lib.rt:97:9
+-- src/lib.rt:139:9
 rows-of-requires : tie.Need-rows-of-requires
 rows-of-requires c κs = search needs
 
--- src/lib.rt:98:5
+-- src/lib.rt:140:5
 table-of-requires : tie.Need-table-of-requires
 table-of-requires c κs = search needs
 
--- src/lib.rt:92:1
+-- src/lib.rt:135:1
 same-length : tie.Need-same-length
 same-length c = search needs
 
--- src/lib.rt:92:1
+-- src/lib.rt:135:1
 returns : tie.Need-returns
 returns c =
     let a = c .before .before .before .before .before .before .before .args in

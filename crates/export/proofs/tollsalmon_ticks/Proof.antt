@@ -7,11 +7,11 @@ use borrow.Author.Needs.{needs}
 use Rattle.export.proofs.tollsalmon_ticks.Statement.{statement}
 use Rattle.export.proofs.tollsalmon_ticks.Tie as tie
 
--- src/lib.rt:59:9
+-- src/lib.rt:58:9
 read-requires : tie.Need-read-requires
 read-requires c κs = search needs
 
--- src/lib.rt:60:9
+-- src/lib.rt:59:9
 how-many-requires : tie.Need-how-many-requires
 how-many-requires c κs = search needs
 
@@ -27,11 +27,11 @@ returns c =
     ticks-unread s (now (a .records)) (now (a .answers))
     (read-says s _ _ (c .before .before .before .read .ensures) (not-true _ (c .if1 .taken)))
 
--- src/lib.rt:65:9
+-- src/lib.rt:66:9
 same-length-2 : tie.Need-same-length-2
 same-length-2 c = search needs
 
--- src/lib.rt:65:9
+-- src/lib.rt:66:9
 returns-2 : tie.Need-returns-2
 returns-2 c =
     let a = c .before .before .before .before .before .before .before .before .before .args in
@@ -40,11 +40,11 @@ returns-2 c =
     (read-says s _ _ (c .before .before .before .before .read .ensures) (not-false _ (c .before .if1 .left)))
     (c .before .before .before .how-many .ensures) (c .if2 .taken)
 
--- src/lib.rt:68:9
+-- src/lib.rt:69:9
 run-requires : tie.Need-run-requires
 run-requires c κs = let h = c .before .before .before .before .before .how-many .ensures in (omega (arith, h), omega (arith, h))
 
--- src/lib.rt:69:5
+-- src/lib.rt:70:5
 put-requires : tie.Need-put-requires
 put-requires c κs =
     let s = now (c .before .before .before .before .before .before .before .before .before .before .before .before .before .before .before .args .state) in
@@ -52,15 +52,15 @@ put-requires c κs =
     let h = read-says s (d .result) _ (d .ensures) (not-false _ (c .before .before .before .before .before .before .before .if1 .left)) in
     can-read s h .long
 
--- src/lib.rt:53:1
+-- src/lib.rt:47:1
 same-length-3 : tie.Need-same-length-3
 same-length-3 c = search needs
 
--- src/lib.rt:53:1
+-- src/lib.rt:47:1
 same-length-4 : tie.Need-same-length-4
 same-length-4 c = search needs
 
--- src/lib.rt:53:1
+-- src/lib.rt:47:1
 returns-3 : tie.Need-returns-3
 returns-3 c =
     let x = c .before .before .before .before .before .before .before .before .before in

@@ -15,19 +15,19 @@ Inv-loop state i₀ i = Walk (unreadable state) 32 i
 abbrev μ-loop : tie.MeasureT-loop
 μ-loop state i₀ i = 32 - i
 
--- src/state.rt:110:9
+-- src/state.rt:139:9
 returns : tie.Need-returns Inv-loop μ-loop
 returns c = too-few _ (c .if1 .taken)
 
--- src/state.rt:112:5
+-- src/state.rt:141:5
 loop-holds : tie.Need-loop-holds Inv-loop μ-loop
 loop-holds c = walk-start _ 32
 
--- src/state.rt:113:12
+-- src/state.rt:142:12
 is-unreadable-requires : tie.Need-is-unreadable-requires Inv-loop μ-loop
 is-unreadable-requires c κs = (omega arith, omega arith)
 
--- src/state.rt:114:13
+-- src/state.rt:143:13
 returns-2 : tie.Need-returns-2 Inv-loop μ-loop
 returns-2 c =
     let s = now (c .before .before .before .before .before .before .args .state) in
@@ -35,22 +35,22 @@ returns-2 c =
     one-unreadable s (l .i) (omega arith)
     (walk-found (unreadable s) 32 (l .i) (l .inv) (omega arith) (sym (c .before .is-unreadable .ensures) ∙ c .if2 .taken))
 
--- src/state.rt:112:9
+-- src/state.rt:141:9
 add-i : tie.Need-add-i Inv-loop μ-loop
 add-i c = search needs
 
--- src/state.rt:112:5
+-- src/state.rt:141:5
 loop-less : tie.Need-loop-less Inv-loop μ-loop
 loop-less c = search needs
 
--- src/state.rt:112:5
+-- src/state.rt:141:5
 loop-again : tie.Need-loop-again Inv-loop μ-loop
 loop-again c =
     let s = now (c .before .before .before .before .before .before .args .state) in
     let l = c .before .before .before .loop in
     walk-next (unreadable s) 32 (l .i) (l .inv) (omega arith) (sym (c .before .is-unreadable .ensures) ∙ c .if2 .left)
 
--- src/state.rt:106:1
+-- src/state.rt:135:1
 returns-3 : tie.Need-returns-3 Inv-loop μ-loop
 returns-3 c =
     let s = now (c .before .before .before .before .args .state) in

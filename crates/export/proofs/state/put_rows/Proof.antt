@@ -20,39 +20,39 @@ Inv-loop state₀ rows i₀ state i = (i ≤ 32) × (state ≡ take 2 state₀ +
 abbrev μ-loop : tie.MeasureT-loop
 μ-loop state₀ rows i₀ state i = 32 - i
 
--- src/state.rt:69:5
+-- src/state.rt:83:5
 loop-holds : tie.Need-loop-holds Inv-loop μ-loop
 loop-holds c = (omega arith, rows-none _ _ (c .before .pre), refl)
 
--- src/state.rt:70:28
+-- src/state.rt:84:28
 mul-put-row : tie.Need-mul-put-row Inv-loop μ-loop
 mul-put-row c = search needs
 
--- src/state.rt:70:24
+-- src/state.rt:84:24
 add-put-row : tie.Need-add-put-row Inv-loop μ-loop
 add-put-row c = search needs
 
--- src/state.rt:70:35
+-- src/state.rt:84:35
 mul-put-row-2 : tie.Need-mul-put-row-2 Inv-loop μ-loop
 mul-put-row-2 c = search needs
 
--- src/state.rt:70:35
+-- src/state.rt:84:35
 array-copy-out-put-row : tie.Need-array-copy-out-put-row Inv-loop μ-loop
 array-copy-out-put-row c = search needs
 
--- src/state.rt:70:9
+-- src/state.rt:84:9
 put-row-requires : tie.Need-put-row-requires Inv-loop μ-loop
 put-row-requires c κs = search needs
 
--- src/state.rt:69:9
+-- src/state.rt:83:9
 add-i : tie.Need-add-i Inv-loop μ-loop
 add-i c = search needs
 
--- src/state.rt:69:5
+-- src/state.rt:83:5
 loop-less : tie.Need-loop-less Inv-loop μ-loop
 loop-less c = search needs
 
--- src/state.rt:69:5
+-- src/state.rt:83:5
 loop-again : tie.Need-loop-again Inv-loop μ-loop
 loop-again c =
     let a = c .before .before .before .before .before .before .before .before in
@@ -64,11 +64,11 @@ loop-again c =
       omega arith,
     )
 
--- src/state.rt:65:1
+-- src/state.rt:79:1
 same-length : tie.Need-same-length Inv-loop μ-loop
 same-length c = search needs
 
--- src/state.rt:65:1
+-- src/state.rt:79:1
 returns : tie.Need-returns Inv-loop μ-loop
 returns c =
     let a = c .before .before .before in

@@ -25,22 +25,22 @@ Inv-loop state h places rows₀ i₀ rows i = (i ≤ places) × (places ≤ 32) 
 abbrev μ-loop : tie.MeasureT-loop
 μ-loop state h places rows₀ i₀ rows i = places - i
 
--- src/state.rt:195:9
+-- src/state.rt:210:9
 head-of-requires : tie.Need-head-of-requires Inv-loop μ-loop
 head-of-requires c κs = search needs
 
--- src/state.rt:197:21
+-- src/state.rt:212:21
 no-row-requires : tie.Need-no-row-requires Inv-loop μ-loop
 no-row-requires c κs = search needs
 
--- src/state.rt:198:5
+-- src/state.rt:213:5
 loop-holds : tie.Need-loop-holds Inv-loop μ-loop
 unfolding listOf
 loop-holds c =
     let s = now (c .before .before .before .args .state) in
     (omega arith, rw (c .before .head-of .ensures) (places-most s), ap (λ (r : Row). replicate 32 r) (c .no-row .ensures))
 
--- src/state.rt:199:19
+-- src/state.rt:214:19
 row-in-requires : tie.Need-row-in-requires Inv-loop μ-loop
 row-in-requires c κs =
     let h = c .before .before .before in
@@ -48,23 +48,23 @@ row-in-requires c κs =
     let p = can-read s (place-read s (c .before .loop .i) (rw (h .head-of .ensures) at (c .loop-test .taken))) in
     (p .long, omega arith, p .places (c .before .loop .i) (omega arith))
 
--- src/state.rt:199:9
+-- src/state.rt:214:9
 mul-rows : tie.Need-mul-rows Inv-loop μ-loop
 mul-rows c = omega arith
 
--- src/state.rt:199:9
+-- src/state.rt:214:9
 array-set-from-rows : tie.Need-array-set-from-rows Inv-loop μ-loop
 array-set-from-rows c = omega arith
 
--- src/state.rt:198:9
+-- src/state.rt:213:9
 add-i : tie.Need-add-i Inv-loop μ-loop
 add-i c = search needs
 
--- src/state.rt:198:5
+-- src/state.rt:213:5
 loop-less : tie.Need-loop-less Inv-loop μ-loop
 loop-less c = search needs
 
--- src/state.rt:198:5
+-- src/state.rt:213:5
 loop-again : tie.Need-loop-again Inv-loop μ-loop
 loop-again c =
     let s = now (c .before .before .before .before .before .before .args .state) in
@@ -76,7 +76,7 @@ loop-again c =
           ∙ fill-more (rowIn s) noRow 32 (l .i) (omega arith),
     )
 
--- src/state.rt:192:1
+-- src/state.rt:207:1
 returns : tie.Need-returns Inv-loop μ-loop
 returns c =
     let h = c .before .before .before in

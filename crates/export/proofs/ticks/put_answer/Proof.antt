@@ -4,23 +4,23 @@ use borrow.Author.Needs.{needs}
 use Rattle.export.proofs.ticks.put_answer.Statement.{statement}
 use Rattle.export.proofs.ticks.put_answer.Tie as tie
 
--- src/ticks.rt:114:5
+-- src/ticks.rt:122:5
 put-number-requires : tie.Need-put-number-requires
 put-number-requires c κs = search needs
 
--- src/ticks.rt:115:23
+-- src/ticks.rt:123:23
 add-put-said : tie.Need-add-put-said
 add-put-said c = search needs
 
--- src/ticks.rt:115:5
+-- src/ticks.rt:123:5
 put-said-requires : tie.Need-put-said-requires
 put-said-requires c κs = search needs
 
--- src/ticks.rt:110:1
+-- src/ticks.rt:118:1
 same-length : tie.Need-same-length
 same-length c = search needs
 
--- src/ticks.rt:110:1
+-- src/ticks.rt:118:1
 returns : tie.Need-returns
 returns c =
     let s = c .before .before .before .before .before .before .before .before .before in

@@ -6,55 +6,55 @@ use borrow.Author.Needs.{needs}
 use Rattle.export.proofs.ticks.put_number.Statement.{statement}
 use Rattle.export.proofs.ticks.put_number.Tie as tie
 
--- src/ticks.rt:61:19
+-- src/ticks.rt:62:19
 cast-answers : tie.Need-cast-answers
 cast-answers c = search needs
 
--- src/ticks.rt:61:5
+-- src/ticks.rt:62:5
 slice-write-answers : tie.Need-slice-write-answers
 slice-write-answers c = search needs
 
--- src/ticks.rt:62:23
+-- src/ticks.rt:63:23
 cast-answers-2 : tie.Need-cast-answers-2
 cast-answers-2 c = search needs
 
--- src/ticks.rt:62:13
+-- src/ticks.rt:63:13
 add-answers : tie.Need-add-answers
 add-answers c = search needs
 
--- src/ticks.rt:62:5
+-- src/ticks.rt:63:5
 slice-write-answers-2 : tie.Need-slice-write-answers-2
 slice-write-answers-2 c = simp length-set (omega arith)
 
--- src/ticks.rt:63:23
+-- src/ticks.rt:64:23
 cast-answers-3 : tie.Need-cast-answers-3
 cast-answers-3 c = search needs
 
--- src/ticks.rt:63:13
+-- src/ticks.rt:64:13
 add-answers-2 : tie.Need-add-answers-2
 add-answers-2 c = search needs
 
--- src/ticks.rt:63:5
+-- src/ticks.rt:64:5
 slice-write-answers-3 : tie.Need-slice-write-answers-3
 slice-write-answers-3 c = simp length-set (omega arith)
 
--- src/ticks.rt:64:23
+-- src/ticks.rt:65:23
 cast-answers-4 : tie.Need-cast-answers-4
 cast-answers-4 c = search needs
 
--- src/ticks.rt:64:13
+-- src/ticks.rt:65:13
 add-answers-3 : tie.Need-add-answers-3
 add-answers-3 c = search needs
 
--- src/ticks.rt:64:5
+-- src/ticks.rt:65:5
 slice-write-answers-4 : tie.Need-slice-write-answers-4
 slice-write-answers-4 c = simp length-set (omega arith)
 
--- src/ticks.rt:57:1
+-- src/ticks.rt:58:1
 same-length : tie.Need-same-length
 same-length c = search needs
 
--- src/ticks.rt:57:1
+-- src/ticks.rt:58:1
 returns : tie.Need-returns
 returns c = sets-four (now (c .args .answers)) (c .args .at) _ _ _ _
 

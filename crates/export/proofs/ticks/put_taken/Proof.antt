@@ -4,43 +4,43 @@ use borrow.Author.Needs.{needs}
 use Rattle.export.proofs.ticks.put_taken.Statement.{statement}
 use Rattle.export.proofs.ticks.put_taken.Tie as tie
 
--- src/ticks.rt:85:5
+-- src/ticks.rt:86:5
 put-number-requires : tie.Need-put-number-requires
 put-number-requires c κs = search needs
 
--- src/ticks.rt:86:23
+-- src/ticks.rt:89:9
 add-put-four : tie.Need-add-put-four
 add-put-four c = search needs
 
--- src/ticks.rt:86:31
+-- src/ticks.rt:90:9
 who-of-requires : tie.Need-who-of-requires
 who-of-requires c κs = search needs
 
--- src/ticks.rt:86:45
+-- src/ticks.rt:91:10
 task-of-requires : tie.Need-task-of-requires
 task-of-requires c κs = search needs
 
--- src/ticks.rt:86:44
+-- src/ticks.rt:91:9
 cast-put-four : tie.Need-cast-put-four
 cast-put-four c = search needs
 
--- src/ticks.rt:86:72
+-- src/ticks.rt:92:9
 mark-of-requires : tie.Need-mark-of-requires
 mark-of-requires c κs = search needs
 
--- src/ticks.rt:86:87
+-- src/ticks.rt:93:9
 bit-of-requires : tie.Need-bit-of-requires
 bit-of-requires c κs = search needs
 
--- src/ticks.rt:86:5
+-- src/ticks.rt:87:5
 put-four-requires : tie.Need-put-four-requires
 put-four-requires c κs = search needs
 
--- src/ticks.rt:79:1
+-- src/ticks.rt:80:1
 same-length : tie.Need-same-length
 same-length c = search needs
 
--- src/ticks.rt:79:1
+-- src/ticks.rt:80:1
 returns : tie.Need-returns
 returns c =
     let a = c .before .before .before .before .before .before .before .before .before .before .before .before .before .args in

@@ -19,36 +19,36 @@ Inv-loop records answers₀ n at₀ i₀ answers at i =
 abbrev μ-loop : tie.MeasureT-loop
 μ-loop records answers₀ n at₀ i₀ answers at i = n - i
 
--- src/ticks.rt:152:5
+-- src/ticks.rt:160:5
 loop-holds : tie.Need-loop-holds Inv-loop μ-loop
 unfolding machineAfter flat
 loop-holds c = (omega arith, refl, refl, refl)
 
--- src/ticks.rt:153:13
+-- src/ticks.rt:161:13
 tick-of-requires : tie.Need-tick-of-requires Inv-loop μ-loop
 tick-of-requires c κs = search needs
 
--- src/ticks.rt:154:13
+-- src/ticks.rt:163:13
 step-requires : tie.Need-step-requires Inv-loop μ-loop
 step-requires c κs = search needs
 
--- src/ticks.rt:156:29
+-- src/ticks.rt:165:29
 mul-put-answer : tie.Need-mul-put-answer Inv-loop μ-loop
 mul-put-answer c = search needs
 
--- src/ticks.rt:156:9
+-- src/ticks.rt:165:9
 put-answer-requires : tie.Need-put-answer-requires Inv-loop μ-loop
 put-answer-requires c κs = search needs
 
--- src/ticks.rt:152:9
+-- src/ticks.rt:160:9
 add-i : tie.Need-add-i Inv-loop μ-loop
 add-i c = search needs
 
--- src/ticks.rt:152:5
+-- src/ticks.rt:160:5
 loop-less : tie.Need-loop-less Inv-loop μ-loop
 loop-less c = search needs
 
--- src/ticks.rt:152:5
+-- src/ticks.rt:160:5
 loop-again : tie.Need-loop-again Inv-loop μ-loop
 loop-again c =
     let a = c .before .before .before .before .before .before .before .before .before .before .before .args in
@@ -63,11 +63,11 @@ loop-again c =
       omega (arith, l .inv .3),
     )
 
--- src/ticks.rt:146:1
+-- src/ticks.rt:154:1
 same-length : tie.Need-same-length Inv-loop μ-loop
 same-length c = search needs
 
--- src/ticks.rt:146:1
+-- src/ticks.rt:154:1
 returns : tie.Need-returns Inv-loop μ-loop
 returns c =
     let a = c .before .before .before .before .args in
