@@ -135,60 +135,47 @@ number-told m rest i k a b =
     let z : 2 + 8 * i + k ≡ suc (suc (8 * i + k)) = omega arith in
     ap (λ (x : ℕ). getD (stateOf m ++ rest) x 0) z ∙ flat-at (placeNumbers (m .rows)) 8 (λ j. refl) 32 i k rest 0 a b
 
-module _ (l : List ℕ) (i : ℕ) (r : Row) (n : (k : ℕ) → k < 8 → numberIn l i k ≡ getD (rowNumbers r) k 0) where
-  place-told : Fields32 r → unreadable l i ≡ false
-  unfolding unreadable
-  place-told f =
-      rw (
-        n 0 (omega arith),
-        n 1 (omega arith),
-        n 2 (omega arith),
-        n 3 (omega arith),
-        n 4 (omega arith),
-        n 5 (omega arith),
-        n 6 (omega arith),
-        n 7 (omega arith),
-        lt-leb _ _ (f .t-fits),
-        lt-leb _ _ (f .d-fits),
-        lt-leb _ _ (f .c-fits),
-        lt-leb _ _ (f .k-fits),
-        lt-leb _ _ (f .e-fits),
-      )
-      (stage-said (r .stage))
-
-  row-told : rowIn l i ≡ r
-  unfolding rowIn
-  row-told =
-      rw (
-        n 0 (omega arith),
-        n 1 (omega arith),
-        n 2 (omega arith),
-        n 3 (omega arith),
-        n 4 (omega arith),
-        n 5 (omega arith),
-        n 6 (omega arith),
-        n 7 (omega arith),
-        stage-back (r .stage),
-      )
+-- eight numbers that are a row's: the place can be read, and it is that row
+place-told : (l : List ℕ) (i : ℕ) (r : Row) → ((k : ℕ) → k < 8 → numberIn l i k ≡ getD (rowNumbers r) k 0) → Fields32 r
+    → (unreadable l i ≡ false) × (rowIn l i ≡ r)
+unfolding unreadable rowIn
+place-told l i r n f =
+    rw (
+      n 0 (omega arith),
+      n 1 (omega arith),
+      n 2 (omega arith),
+      n 3 (omega arith),
+      n 4 (omega arith),
+      n 5 (omega arith),
+      n 6 (omega arith),
+      n 7 (omega arith),
+      lt-leb _ _ (f .t-fits),
+      lt-leb _ _ (f .d-fits),
+      lt-leb _ _ (f .c-fits),
+      lt-leb _ _ (f .k-fits),
+      lt-leb _ _ (f .e-fits),
+      stage-back (r .stage),
+    )
+    (stage-said (r .stage), refl)
 
 module _ (m : Machine) (rest : List ℕ) (h : Held m) where
+  row-told : (i : ℕ) → i < 32 → (unreadable (stateOf m ++ rest) i ≡ false) × (rowIn (stateOf m ++ rest) i ≡ getD (m .rows) i noRow)
+  row-told i b = place-told (stateOf m ++ rest) i (getD (m .rows) i noRow) (λ k d. number-told m rest i k b d) (h .fields i b)
+
   pub told-readable : readable (stateOf m ++ rest) ≡ true
   told-readable =
       let l : List ℕ = stateOf m ++ rest in
       sym
       (all-readable l (omega (arith, length-append (stateOf m) rest, state-length m))
-      (where-all (unreadable l) 32 0
-      (λ i a b.
-      let c : i < 32 = omega arith in
-      place-told l i (getD (m .rows) i noRow) (λ k d. number-told m rest i k c d) (h .fields i c))))
+      (where-all (unreadable l) 32 0 (λ i a b. row-told i (omega arith) .0)))
 
   rows-told : listOf (rowIn (stateOf m ++ rest)) 32 ≡ m .rows
   rows-told =
-      let l : List ℕ = stateOf m ++ rest in
-      ext-getD noRow (listOf (rowIn l) 32) (m .rows) (length-list (rowIn l) 32 ∙ sym (h .places))
+      let f = rowIn (stateOf m ++ rest) in
+      ext-getD noRow (listOf f 32) (m .rows) (length-list f 32 ∙ sym (h .places))
       (λ i b.
-      let c : i < 32 = omega (arith, length-list (rowIn l) 32) in
-      list-at (rowIn l) 32 i noRow c ∙ row-told l i (getD (m .rows) i noRow) (λ k d. number-told m rest i k c d))
+      let c : i < 32 = omega (arith, length-list f 32) in
+      list-at f 32 i noRow c ∙ row-told i c .1)
 
   pub told-machine : machineIn (stateOf m ++ rest) ≡ m
   unfolding machineIn stateOf
