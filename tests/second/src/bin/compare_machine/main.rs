@@ -4,20 +4,19 @@
 //!     compare_machine [SEED]               the library
 //!     compare_machine --self-test [SEED]   machines with one fault each: every one must be noticed
 
-mod lent;
+#[path = "../library.rs"]
 mod library;
 mod outcome;
 mod tally;
 
-use lent::Lent;
-use library::Library;
-use outcome::{outcome, Called, Outcome};
-use second::broken_machine::{self, SECOND};
+use outcome::{outcome, Called, Library, Outcome};
 use second::command::compare_main;
-use second::machine::RULES;
-use second::machine_damages::DAMAGES;
-use second::machine_numbers::ticks;
-use second::machines::{hand_on, Begin, Case};
+use second::lent::{Lent, Pattern};
+use second::machine::broken::{BROKEN, SECOND};
+use second::machine::damages::DAMAGES;
+use second::machine::made_up::{hand_on, Begin, Case};
+use second::machine::numbers::ticks;
+use second::machine::rules::RULES;
 use second::self_test::SelfTest;
 use std::process::ExitCode;
 use tally::Tally;
@@ -27,7 +26,7 @@ fn main() -> ExitCode {
 }
 
 fn compare_with_the_library(seed: u64) -> bool {
-    let mut tally = Tally::new();
+    let mut tally = Tally::default();
     let mut shown = false;
     hand_on(seed, &mut |case| {
         let expected = outcome(case, &SECOND);
@@ -55,9 +54,7 @@ fn show(case: &Case, expected: &Outcome, found: &Outcome) {
         println!("  second program: {:?}", expected.start);
         println!("  library:        {:?}", found.start);
     }
-    if found.table != expected.table {
-        println!("  the library changed the table to {:?}", found.table);
-    }
+    show_differences("the table", &expected.table, &found.table);
     show_differences("the machine before the first call", &expected.begin, &found.begin);
     let calls = expected.calls.iter().zip(&found.calls).enumerate();
     if let Some((number, (expected, found))) = calls.into_iter().find(|(_, (mine, others))| mine != others) {
@@ -68,10 +65,8 @@ fn show(case: &Case, expected: &Outcome, found: &Outcome) {
 
 fn show_call(case: &Case, number: usize, expected: &Called, found: &Called) {
     println!("  returned: second program {}, library {}", expected.returned, found.returned);
-    if found.records != expected.records {
-        println!("  the library changed the records");
-    }
-    let answers = |called: &Called| called.answers.seen().chunks(12).map(<[u8]>::to_vec).collect::<Vec<_>>();
+    show_differences("the records", &expected.records, &found.records);
+    let answers = |called: &Called| called.answers.part().chunks(12).map(<[u8]>::to_vec).collect::<Vec<_>>();
     let (mine, others) = (answers(expected), answers(found));
     if let Some(tick) = (0..mine.len()).find(|&tick| mine[tick] != others[tick]) {
         println!("  answer {tick}: second program {:?}, library {:?}", mine[tick], others[tick]);
@@ -85,7 +80,7 @@ fn show_call(case: &Case, number: usize, expected: &Called, found: &Called) {
 /// The machine that the tick came to, and the tick.
 fn show_before(case: &Case, number: usize, tick: usize) {
     let begun = outcome(&Case { calls: vec![], begin: begin_of(case), ..*case }, &SECOND);
-    let mut state = begun.begin.seen().to_vec();
+    let mut state = begun.begin.part().to_vec();
     for call in &case.calls[..number] {
         ticks(&RULES, &mut state, &call.records, &mut vec![0; call.answers]);
     }
@@ -105,19 +100,15 @@ fn begin_of(case: &Case) -> Begin {
     }
 }
 
-fn show_differences<T: Copy + PartialEq + std::fmt::Display>(
-    what: &str,
-    expected: &Lent<T>,
-    found: &Lent<T>,
-) {
-    for (place, expected, found) in expected.differences(found) {
-        println!("  {what}, place {place}: second program {expected}, library {found}");
+fn show_differences<T: Pattern>(what: &str, expected: &Lent<T>, found: &Lent<T>) {
+    for difference in expected.differences(found) {
+        println!("  {what}, {difference}");
     }
 }
 
 /// The same comparison with each broken machine in the library's place, until all are noticed.
 fn notice_the_broken(seed: u64) -> bool {
-    let mut test = SelfTest::new(broken_machine::MACHINE.to_vec());
+    let mut test = SelfTest::new(BROKEN.to_vec());
     hand_on(seed, &mut |case| {
         let expected = outcome(case, &SECOND);
         let sound_passes = expected == outcome(case, &SECOND);

@@ -1,24 +1,37 @@
 //! What can be seen of a machine that runs a case: every answer, and all lent memory after each
 //! call.
 
-use crate::lent::Lent;
+use crate::library;
 use second::answer::Answer;
-use second::broken_machine::Program;
-use second::machines::{Begin, Call, Case};
+use second::lent::Lent;
+use second::machine::broken::Program;
+use second::machine::made_up::{Begin, Call, Case};
 
 /// A program that starts machines and takes ticks: the library, or one like the second program.
 pub trait Runs {
-    fn start(&self, table: &[u32], state: &mut Lent<u64>) -> Answer;
-    fn ticks(&self, state: &mut Lent<u64>, records: &[u8], answers: &mut Lent<u8>) -> u64;
+    fn start(&self, table: &mut Lent<u32>, state: &mut Lent<u64>) -> Answer;
+    fn ticks(&self, state: &mut Lent<u64>, records: &mut Lent<u8>, answers: &mut Lent<u8>) -> u64;
 }
 
 impl Runs for Program {
-    fn start(&self, table: &[u32], state: &mut Lent<u64>) -> Answer {
-        (self.start)(&self.rules, table, state.part())
+    fn start(&self, table: &mut Lent<u32>, state: &mut Lent<u64>) -> Answer {
+        (self.start)(&self.rules, table.part(), state.part_to_write())
     }
 
-    fn ticks(&self, state: &mut Lent<u64>, records: &[u8], answers: &mut Lent<u8>) -> u64 {
-        (self.ticks)(&self.rules, state.part(), records, answers.part())
+    fn ticks(&self, state: &mut Lent<u64>, records: &mut Lent<u8>, answers: &mut Lent<u8>) -> u64 {
+        (self.ticks)(&self.rules, state.part_to_write(), records.part(), answers.part_to_write())
+    }
+}
+
+pub struct Library;
+
+impl Runs for Library {
+    fn start(&self, table: &mut Lent<u32>, state: &mut Lent<u64>) -> Answer {
+        library::start(table, state)
+    }
+
+    fn ticks(&self, state: &mut Lent<u64>, records: &mut Lent<u8>, answers: &mut Lent<u8>) -> u64 {
+        library::ticks(state, records, answers).unwrap_or(0)
     }
 }
 
@@ -26,7 +39,7 @@ impl Runs for Program {
 pub struct Outcome {
     /// The answer to the start, for a case that begins with a table.
     pub start: Option<Answer>,
-    pub table: Vec<u32>,
+    pub table: Lent<u32>,
     /// The machine before the first call.
     pub begin: Lent<u64>,
     pub calls: Vec<Called>,
@@ -37,21 +50,21 @@ pub struct Outcome {
 pub struct Called {
     pub returned: u64,
     pub state: Lent<u64>,
-    pub records: Vec<u8>,
+    pub records: Lent<u8>,
     pub answers: Lent<u8>,
 }
 
 pub fn outcome(case: &Case, runs: &impl Runs) -> Outcome {
-    let mut table = Vec::new();
+    let mut table = Lent::new(0);
     let mut start = None;
     let mut state = match &case.begin {
         Begin::Table(given, length) => {
-            table.clone_from(given);
-            let mut state = Lent::new(*length, no_number);
-            start = Some(runs.start(&table, &mut state));
+            table = Lent::holding(given);
+            let mut state = Lent::new(*length);
+            start = Some(runs.start(&mut table, &mut state));
             state
         }
-        Begin::Numbers(numbers) => Lent::holding(numbers, no_number),
+        Begin::Numbers(numbers) => Lent::holding(numbers),
     };
     let begin = state.clone();
     let calls = case.calls.iter().map(|call| called(call, runs, &mut state)).collect();
@@ -59,17 +72,8 @@ pub fn outcome(case: &Case, runs: &impl Runs) -> Outcome {
 }
 
 fn called(call: &Call, runs: &impl Runs, state: &mut Lent<u64>) -> Called {
-    let records = call.records.clone();
-    let mut answers = Lent::new(call.answers, no_byte);
-    let returned = runs.ticks(state, &records, &mut answers);
+    let mut records = Lent::holding(&call.records);
+    let mut answers = Lent::new(call.answers);
+    let returned = runs.ticks(state, &mut records, &mut answers);
     Called { returned, state: state.clone(), records, answers }
-}
-
-/// Numbers that no machine has.
-fn no_number(place: usize) -> u64 {
-    0xA5C3_A5C3_0000_0000 ^ place as u64
-}
-
-fn no_byte(place: usize) -> u8 {
-    0xA5 ^ place as u8
 }

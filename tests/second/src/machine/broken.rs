@@ -1,0 +1,22 @@
+//! Machines with one fault each, made by build.rs from rules.rs, numbers.rs and edits/machine.rs.
+//! The comparison runs against them to show that it notices such faults.
+
+#![allow(warnings, clippy::all)]
+
+use crate::answer::Answer;
+use crate::machine::numbers::{start_into, ticks};
+use crate::machine::rules::RULES;
+use crate::machine::state::Rules;
+
+/// A machine as the library has it: its rules behind a start and a run of ticks.
+#[derive(Clone, Copy)]
+pub struct Program {
+    pub rules: Rules,
+    pub start: fn(&Rules, &[u32], &mut [u64]) -> Answer,
+    pub ticks: fn(&Rules, &mut [u64], &[u8], &mut [u8]) -> u64,
+}
+
+/// The one without a fault.
+pub const SECOND: Program = Program { rules: RULES, start: start_into, ticks };
+
+include!(concat!(env!("OUT_DIR"), "/broken_machine.rs"));
