@@ -7,6 +7,7 @@ mod plan;
 mod tables;
 mod text;
 
+use std::ffi::OsStr;
 use std::path::{Path, PathBuf};
 use std::{env, fs};
 
@@ -50,7 +51,7 @@ fn write(part: &str, kind: &str, sources: &[Source]) {
 fn copies(text: &mut String, source: &Source) -> String {
     println!("cargo:rerun-if-changed={}", source.file);
     let sound = fs::read_to_string(source.file).unwrap();
-    let name = Path::new(source.file).file_stem().unwrap().display().to_string();
+    let name = Path::new(source.file).file_stem().and_then(OsStr::to_str).unwrap();
     let mut list = String::new();
     for (i, edit) in source.edits.iter().enumerate() {
         let module = format!("{name}_{i}");

@@ -139,7 +139,7 @@ impl Maker<'_> {
     }
 
     fn written(&mut self) {
-        for table in WRITTEN {
+        for table in CASES.iter().chain(WRITTEN) {
             let needed = 3 * (table.len() / 4);
             for results in [0, needed.saturating_sub(1), needed, needed + 1, needed + 5] {
                 self.give_with(Kind::Written, table.to_vec(), results);
@@ -473,8 +473,8 @@ fn of_any_length(dice: &mut Dice) -> Vec<u32> {
 
 // Tables written by hand.
 
-const WRITTEN: &[&[u32]] = &[
-    // P1 to P12 of document 01 (P12 is P2 with short results).
+/// P1 to P11 of document 01; P12 is P2 with short results.
+pub const CASES: [&[u32]; 11] = [
     &[],
     &[10, 8, 3, 2],
     &[10, 8, 6, 2],
@@ -486,6 +486,9 @@ const WRITTEN: &[&[u32]] = &[
     &[10, 10, 2, 1, 20, 20, 4, 2],
     &[5, 5, 1, 2, 7, 7, 1, 2, 7, 7, 1, 2],
     &[10, 8, 0, 2],
+];
+
+const WRITTEN: &[&[u32]] = &[
     // t(1) is 4,000,000 in the first and 4,000,001 in the second.
     &[4, 4, 1, 3, 1_000_000, 1_000_000, 1, 1_000_000],
     &[41, 41, 1, 40, 1_000_000, 1_000_000, 1, 97_561],

@@ -187,8 +187,9 @@ fn too_long(dice: &mut Dice) -> Vec<u8> {
 fn written() -> Vec<Vec<u8>> {
     let mut quiet = vec![0; 64];
     quiet[0] = 1;
-    let mut files: Vec<Vec<u8>> = CASES.iter().map(|table| plan(table, &quiet)).collect();
-    files.extend(CASES.iter().map(|table| plan(table, &[])));
+    let tables = || tables::CASES.into_iter().chain(MORE_TABLES);
+    let mut files: Vec<Vec<u8>> = tables().map(|table| plan(table, &quiet)).collect();
+    files.extend(tables().map(|table| plan(table, &[])));
     files.extend(
         [0, 1, 3, 4, 16, 28, 65_535, 65_536, 65_537, 65_538, 1_000_000].map(|length| vec![0; length]),
     );
@@ -197,18 +198,7 @@ fn written() -> Vec<Vec<u8>> {
     files
 }
 
-const CASES: [&[u32]; 14] = [
-    &[],
-    &[10, 8, 3, 2],
-    &[10, 8, 6, 2],
-    &[10, 8, 7, 2],
-    &[5, 2, 1, 2],
-    &[5, 2, 1, 3],
-    &[5, 5, 1, 6],
-    &[10, 11, 1, 1],
-    &[10, 10, 2, 1, 20, 20, 4, 2],
-    &[5, 5, 1, 2, 7, 7, 1, 2, 7, 7, 1, 2],
-    &[10, 8, 0, 2],
+const MORE_TABLES: [&[u32]; 3] = [
     &[1_000_000, 1_000_000, 499_999, 500_000],
     &[1, 1, 1, 1, 5, 5, 1, 1],
     &[u32::MAX, u32::MAX, u32::MAX, u32::MAX],

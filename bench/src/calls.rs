@@ -1,12 +1,10 @@
 //! The plain Rust machine behind the same calls as the library's: a machine as 258 numbers, tick
 //! records and answers as bytes. Each call is there twice, by how the step is inlined.
 
-use crate::machine::{Machine, Row, Stage, Stepped};
+use crate::machine::numbers::{read, write, ANSWER, NUMBERS, RECORD};
+use crate::machine::state::Machine;
+use crate::machine::Stepped;
 use std::hint::black_box;
-
-pub const NUMBERS: usize = 258;
-pub const RECORD: usize = 8;
-pub const ANSWER: usize = 12;
 
 pub type Numbers = [u64; NUMBERS];
 
@@ -14,45 +12,6 @@ pub fn numbers(machine: &Machine) -> Numbers {
     let mut numbers = [0; NUMBERS];
     write(machine, &mut numbers);
     numbers
-}
-
-fn read(state: &Numbers) -> Option<Machine> {
-    let mut machine = Machine { count: state[0], clock: state[1], ..Machine::NONE };
-    for (row, n) in machine.rows.iter_mut().zip(state[2..].chunks_exact(8)) {
-        let field = |place: usize| u32::try_from(n[place]).ok();
-        let stage = match n[5] {
-            0 => Stage::Never,
-            1 => Stage::Guest { arrival: n[6], used: n[7] },
-            2 => Stage::Hyper { arrival: n[6], left: n[7] },
-            3 => Stage::Closed { arrival: n[6] },
-            _ => return None,
-        };
-        *row = Row {
-            period: field(0)?,
-            deadline: field(1)?,
-            guest: field(2)?,
-            hyper: field(3)?,
-            offset: field(4)?,
-            stage,
-        };
-    }
-    Some(machine)
-}
-
-fn write(machine: &Machine, state: &mut Numbers) {
-    state[0] = machine.count;
-    state[1] = machine.clock;
-    for (row, n) in machine.rows.iter().zip(state[2..].chunks_exact_mut(8)) {
-        let (stage, arrival, last) = match row.stage {
-            Stage::Never => (0, 0, 0),
-            Stage::Guest { arrival, used } => (1, arrival, used),
-            Stage::Hyper { arrival, left } => (2, arrival, left),
-            Stage::Closed { arrival } => (3, arrival, 0),
-        };
-        let fields = [row.period, row.deadline, row.guest, row.hyper, row.offset].map(u64::from);
-        n[..5].copy_from_slice(&fields);
-        n[5..].copy_from_slice(&[stage, arrival, last]);
-    }
 }
 
 /// The same tick that many times, with a running sum of the answers; the numbers are only read.
