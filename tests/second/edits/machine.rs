@@ -11,7 +11,11 @@ pub const RULES: Source = Source {
 pub const NUMBERS: Source = Source {
     file: "src/machine/numbers.rs",
     edits: OF_NUMBERS,
-    program: |module| format!("Program {{ start: {module}::start_into, ticks: {module}::ticks, ..SECOND }}"),
+    program: |module| {
+        let calls = [("start", "start_into"), ("ticks", "ticks"), ("step", "step")];
+        let calls = calls.map(|(field, name)| format!("{field}: {module}::{name}, ")).concat();
+        format!("Program {{ {calls}..SECOND }}")
+    },
 };
 
 const OF_RULES: &[Edit] = &[
@@ -329,7 +333,6 @@ const OF_RULES: &[Edit] = &[
 ];
 
 const OF_NUMBERS: &[Edit] = &[
-    edit("ticks of no machine counted", "return 0;", "return (records.len() / RECORD) as u64;"),
     edit(
         "the table before the lent numbers",
         "return Err(refusal(18, NUMBERS));",
@@ -341,17 +344,81 @@ const OF_NUMBERS: &[Edit] = &[
         "state[0] = machine.count;\n\
          state.iter_mut().skip(NUMBERS).take(1).for_each(|number| *number = 0);",
     ),
+    // Numbers that are no machine.
     edit(
-        "stage 4 taken for Closed",
-        "3 => Stage::Closed { arrival },\n        _",
-        "3 | 4 => Stage::Closed { arrival },\n        _",
+        "ticks of no machine counted",
+        "let mut machine = read(state).ok_or(refusal(8, 0))?;",
+        "let Some(mut machine) = read(state) else { return Ok((records.len() / RECORD) as u64) };",
     ),
-    edit("stages cut down to 8 bits", "match numbers[5] {", "match numbers[5] as u8 {"),
+    edit(
+        "no ticks of no machine, and no refusal",
+        "let mut machine = read(state).ok_or(refusal(8, 0))?;",
+        "let Some(mut machine) = read(state) else { return Ok(0) };",
+    ),
+    edit(
+        "8 said in the answers to no machine",
+        "let mut machine = read(state).ok_or(refusal(8, 0))?;",
+        "let Some(mut machine) = read(state) else {\n\
+             for bytes in answers.chunks_exact_mut(ANSWER).take(records.len() / RECORD) {\n\
+                 bytes.copy_from_slice(&bytes_of(0, &Err(refusal(8, 0))));\n\
+             }\n\
+             return Err(refusal(8, 0));\n\
+         };",
+    ),
+    edit(
+        "too few numbers of a run refused with 18",
+        "let mut machine = read(state).ok_or(refusal(8, 0))?;",
+        "if state.len() < NUMBERS {\n        return Err(refusal(18, NUMBERS));\n    }\n    \
+         let mut machine = read(state).ok_or(refusal(8, 0))?;",
+    ),
+    edit(
+        "too few numbers of a step refused with 18",
+        "let machine = read(state).ok_or(refusal(8, 0))?;",
+        "if state.len() < NUMBERS {\n        return Err(refusal(18, NUMBERS));\n    }\n    \
+         let machine = read(state).ok_or(refusal(8, 0))?;",
+    ),
+    edit("stage 4 taken for Closed", "[3, arrival, 0] =>", "[3 | 4, arrival, 0] =>"),
+    edit(
+        "stages cut down to 8 bits",
+        "match numbers[5..] {",
+        "match [numbers[5] as u8 as u64, numbers[6], numbers[7]] {",
+    ),
     edit("fields cut down to 32 bits", "u32::try_from(numbers[place]).ok()", "Some(numbers[place] as u32)"),
-    edit("no tick clears the spare numbers", "if taken > 0 {", "if taken < u64::MAX {"),
-    edit("spare numbers kept", "Stage::Never => (0, 0, 0),", "Stage::Never => (0, row.T.into(), 0),"),
-    edit("any early byte but 0 a mark", "record[5] == 1", "record[5] != 0"),
-    edit("the spare bytes looked at", "record[5] == 1", "record[5] | record[6] == 1"),
+    edit("E cut down to 32 bits", "E: field(4)?", "E: numbers[4] as u32"),
+    edit(
+        "a stray number passed over and written back as 0",
+        "let stage = match numbers[5..] {",
+        "let arrival = if numbers[5] == 0 { 0 } else { numbers[6] };\n    \
+         let last = if [0, 3].contains(&numbers[5]) { 0 } else { numbers[7] };\n    \
+         let stage = match [numbers[5], arrival, last] {",
+    ),
+    edit("Never's arrival not looked at", "[0, 0, 0] =>", "[0, _, 0] =>"),
+    edit("Never's ticks not looked at", "[0, 0, 0] =>", "[0, 0, _] =>"),
+    edit("Closed's ticks not looked at", "[3, arrival, 0] =>", "[3, arrival, _] =>"),
+    edit(
+        "stray numbers looked for within the count alone",
+        "let mut machine = Machine { count: state[0], clock: state[1], ..WITHOUT_ROWS };",
+        "let mut machine = Machine { count: state[0], clock: state[1], ..WITHOUT_ROWS };\n    \
+         let mut cleared = state.to_vec();\n    \
+         for place in cleared[2..NUMBERS].chunks_exact_mut(IN_A_PLACE).skip(state[0].min(32) as usize) {\n        \
+             if place[5] == 0 { place[6] = 0; }\n        \
+             if [0, 3].contains(&place[5]) { place[7] = 0; }\n    \
+         }\n    \
+         let state = &cleared[..];",
+    ),
+    edit(
+        "places past the last row not read",
+        ".zip(state[2..NUMBERS].chunks_exact(IN_A_PLACE))",
+        ".zip(state[2..NUMBERS].chunks_exact(IN_A_PLACE)).take(state[0].min(32) as usize)",
+    ),
+    edit(
+        "a number without a use written",
+        "Stage::Never => (0, 0, 0),",
+        "Stage::Never => (0, row.T.into(), 0),",
+    ),
+    // A run of ticks.
+    edit("any early byte but 0 a mark", "given.early == 1", "given.early != 0"),
+    edit("the spare bytes looked at", "early: record[5] }", "early: record[5] | record[6] }"),
     edit(
         "the clock after the tick answered",
         "bytes_of(machine.clock, &answer)",
@@ -363,5 +430,62 @@ const OF_NUMBERS: &[Edit] = &[
         "the last answer left out",
         "records.chunks_exact(RECORD)",
         "records[..records.len().saturating_sub(1)].chunks_exact(RECORD)",
+    ),
+    // One tick.
+    edit(
+        "18 before 17",
+        "if given.early > 1 {",
+        "if answer.len() < ANSWER {\n        return Err(refusal(18, ANSWER));\n    }\n    if given.early > 1 {",
+    ),
+    edit(
+        "8 before 18",
+        "if answer.len() < ANSWER {",
+        "read(state).ok_or(refusal(8, 0))?;\n    if answer.len() < ANSWER {",
+    ),
+    edit(
+        "8 before 17",
+        "if given.early > 1 {",
+        "read(state).ok_or(refusal(8, 0))?;\n    if given.early > 1 {",
+    ),
+    edit("an early mark above 1 counted as none", "if given.early > 1 {", "if false {"),
+    edit(
+        "an early mark of 2 counted as 1",
+        "if given.early > 1 {",
+        "let given = Given { early: if given.early == 2 { 1 } else { given.early }, ..given };\n    \
+         if given.early > 1 {",
+    ),
+    edit("an early mark of 1 refused", "if given.early > 1 {", "if given.early > 0 {"),
+    edit(
+        "too short an answer cleared",
+        "return Err(refusal(18, ANSWER));",
+        "answer.fill(0);\n        return Err(refusal(18, ANSWER));",
+    ),
+    edit("13 bytes asked for", "answer.len() < ANSWER", "answer.len() <= ANSWER"),
+    edit("place of 18 is what was lent", "refusal(18, ANSWER)", "refusal(18, answer.len())"),
+    edit("place of 17 from 1", "refusal(17, 0)", "refusal(17, 1)"),
+    edit(
+        "the answer of a refused step written",
+        "said?;\n    answer[..ANSWER].copy_from_slice(&bytes_of(machine.clock, &said));",
+        "answer[..ANSWER].copy_from_slice(&bytes_of(machine.clock, &said));\n    said?;",
+    ),
+    edit(
+        "a refused step writes the state back with its clock advanced",
+        "said?;",
+        "if said.is_err() {\n\
+             write(&Machine { clock: machine.clock.wrapping_add(1), ..machine }, state);\n\
+         }\n    said?;",
+    ),
+    edit("a step's machine not written", "write(&next, state);\n    Ok(0)", "Ok(0)"),
+    edit("a step's answer not written", "answer[..ANSWER].copy_from_slice(", "let _ = (&"),
+    edit(
+        "a step's answer with the clock after it",
+        "bytes_of(machine.clock, &said)",
+        "bytes_of(next.clock, &said)",
+    ),
+    edit("a step accepted with 1", "Ok(0)", "Ok(1)"),
+    edit(
+        "a byte past a step's answer written",
+        "write(&next, state);\n    Ok(0)",
+        "write(&next, state);\n    answer.iter_mut().skip(ANSWER).for_each(|byte| *byte = 0);\n    Ok(0)",
     ),
 ];

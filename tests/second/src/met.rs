@@ -39,9 +39,16 @@ impl Counts<usize> {
     }
 }
 
-/// A kind of made-up cases, as it is printed and counted.
+/// A kind of made-up cases, as it is counted and printed: in words.
 pub fn name(kind: impl Debug) -> String {
-    format!("{kind:?}").to_lowercase()
+    let mut words = String::new();
+    for letter in format!("{kind:?}").chars() {
+        if letter.is_uppercase() && !words.is_empty() {
+            words.push(' ');
+        }
+        words.push(letter.to_ascii_lowercase());
+    }
+    words
 }
 
 /// A line of a tally.

@@ -8,6 +8,7 @@ mod interface;
 use interface::*;
 use second::answer::Answer;
 use second::lent::{answered, Lent};
+use second::machine::state::Given;
 
 // SAFETY, of every call: each pointer is good for the length given with it, and `place` for one number.
 
@@ -30,6 +31,16 @@ pub fn ticks(state: &mut Lent<u64>, records: &mut Lent<u8>, answers: &mut Lent<u
     let (answers, answers_len) = answers.pointer_and_length();
     answered(|place| unsafe {
         tollsalmon_ticks(state, state_len, records, records_len, answers, answers_len, place)
+    })
+}
+
+/// Accepted with 0.
+pub fn step(state: &mut Lent<u64>, given: Given, answer: &mut Lent<u8>) -> Answer {
+    let Given { mask, signal, early } = given;
+    let (state, state_len) = state.pointer_and_length();
+    let (answer, answer_len) = answer.pointer_and_length();
+    answered(|place| unsafe {
+        tollsalmon_step(state, state_len, mask, signal, early, answer, answer_len, place)
     })
 }
 

@@ -4,7 +4,7 @@
 use crate::jobs::books::{books, Books, Fault, Run};
 use crate::jobs::made_up::{made_up, MadeUp};
 use crate::machine::broken::{Program, BROKEN as MACHINES, SECOND};
-use crate::machine::numbers::{write, ANSWER, NUMBERS, RECORD};
+use crate::machine::numbers::{numbers_of, ANSWER, NUMBERS, RECORD};
 use crate::tables::broken::{Analyse, BROKEN as ANALYSES};
 
 const MACHINES_THAT_BREAK_DEMAND_3: &[&str] = &[
@@ -141,20 +141,18 @@ pub fn sound_books(made_up: &MadeUp) -> Books {
 }
 
 fn sound_answers(made_up: &MadeUp) -> Vec<u8> {
-    let mut state = vec![0; NUMBERS];
-    write(&made_up.machine, &mut state);
-    answers(&SECOND, &mut state, &made_up.records)
+    answers(&SECOND, &mut numbers_of(&made_up.machine), &made_up.records)
 }
 
 fn answers_from_a_start(made_up: &MadeUp, machine: &Program) -> Vec<u8> {
-    let mut state = vec![0; NUMBERS];
+    let mut state = [0; NUMBERS];
     (machine.start)(&machine.rules, &made_up.table, &mut state).expect("an accepted table");
     answers(machine, &mut state, &made_up.records)
 }
 
 fn answers(machine: &Program, state: &mut [u64], records: &[u8]) -> Vec<u8> {
     let mut answers = vec![0; records.len() / RECORD * ANSWER];
-    (machine.ticks)(&machine.rules, state, records, &mut answers);
+    (machine.ticks)(&machine.rules, state, records, &mut answers).expect("a machine's numbers");
     answers
 }
 

@@ -5,7 +5,7 @@
 use crate::jobs::books::{books, Books, Fault, Job, Run};
 use crate::jobs::made_up::made_up;
 use crate::machine::broken::SECOND;
-use crate::machine::numbers::{write, ANSWER, NUMBERS, RECORD};
+use crate::machine::numbers::{numbers_of, ANSWER, NUMBERS, RECORD};
 use crate::tables::analysis::analyse;
 
 /// P3 and P9 of document 01, each with the E of its rows.
@@ -89,7 +89,7 @@ fn the_second_programs_runs_of_p3_are_booked_so() {
     let answers_to = |records: &[u8]| {
         let (mut state, mut answers) = ([0; NUMBERS], vec![0; records.len() / RECORD * ANSWER]);
         (SECOND.start)(&SECOND.rules, P3.0, &mut state).unwrap();
-        (SECOND.ticks)(&SECOND.rules, &mut state, records, &mut answers);
+        (SECOND.ticks)(&SECOND.rules, &mut state, records, &mut answers).unwrap();
         answers
     };
     let mut records = [0; 8 * RECORD];
@@ -186,9 +186,9 @@ fn refusal_8() {
 fn jobs_are_the_outputs_and_those_still_open() {
     for number in 0..200 {
         let made_up = made_up(1, number, analyse);
-        let (mut state, mut answers) = ([0; NUMBERS], vec![0; made_up.records.len() / RECORD * ANSWER]);
-        write(&made_up.machine, &mut state);
-        (SECOND.ticks)(&SECOND.rules, &mut state, &made_up.records, &mut answers);
+        let mut state = numbers_of(&made_up.machine);
+        let mut answers = vec![0; made_up.records.len() / RECORD * ANSWER];
+        (SECOND.ticks)(&SECOND.rules, &mut state, &made_up.records, &mut answers).unwrap();
         let (table, E, records) = (&made_up.table, &made_up.E(), &made_up.records);
         let books = books(&Run { table, E, records, answers: &answers });
         assert_eq!(books.faults, []);

@@ -1,12 +1,14 @@
 //! Document 01's cases of the machine, and the edges of its refusals.
 
-use crate::answer::refusal;
+use crate::answer::{refusal, Answer};
 use crate::dice::Dice;
-use crate::machine::damages::DAMAGES;
+use crate::machine::damages::{Damaged, DAMAGES, READABLE};
 use crate::machine::made_up::hand_built;
-use crate::machine::numbers::{read, write, NUMBERS};
-use crate::machine::rules::{is_well_formed, start, step, WELL_FORMED};
+use crate::machine::numbers::{self, given_by, numbers_of, read, ticks, write, ANSWER, NUMBERS, RECORD};
+use crate::machine::rules::{is_well_formed, start, step, RULES, WELL_FORMED};
 use crate::machine::state::*;
+
+const UNTOUCHED: u8 = 0xA5;
 
 const P2: [u32; 4] = [10, 8, 3, 2];
 const P3: [u32; 4] = [10, 8, 6, 2];
@@ -227,20 +229,106 @@ fn every_damage_breaks_its_clause_alone() {
     let mut dice = Dice::new(1);
     for damage in DAMAGES {
         for _ in 0..200 {
-            let machine = damage.damaged(&mut dice);
-            let broken: Vec<_> = WELL_FORMED.iter().filter(|(_, holds)| !holds(&machine)).collect();
+            let damaged = damage.damaged(&mut dice);
+            let broken = broken_clauses(&damaged);
             let alone = broken.len() == 1 || !damage.alone;
-            assert!(alone && broken[0].0 == damage.clause, "{}: {machine:?}", damage.name);
-            assert_refused(&machine, mask(dice.number() as u32), 8, 0);
+            assert!(alone && broken[0] == damage.clause, "{}: {damaged:?}", damage.name);
+            assert_refused_with_8(&damaged.numbers, dice.number() as u32);
         }
     }
 }
 
+/// The clauses of "well formed" that don't hold; before them whether the numbers can be read, which
+/// only one of them is in the way of.
+fn broken_clauses(damaged: &Damaged) -> Vec<&'static str> {
+    let Damaged { machine, numbers } = damaged;
+    let sound = numbers_of(machine);
+    let changed = sound.iter().zip(numbers).filter(|(sound, number)| sound != number).count();
+    let broken = WELL_FORMED.iter().filter(|(_, holds)| !holds(machine)).map(|(clause, _)| *clause);
+    if read(numbers).is_some() {
+        assert_eq!((read(numbers), changed), (Some(*machine), 0));
+        return broken.collect();
+    }
+    assert!(changed == 1 || numbers.len() < NUMBERS);
+    [READABLE].into_iter().chain(broken).collect()
+}
+
+/// By itself and in a run of ticks; nothing is touched.
+fn assert_refused_with_8(numbers: &[u64], mask: u32) {
+    let mut state = numbers.to_vec();
+    let mut answer = [UNTOUCHED; ANSWER];
+    assert_eq!(numbers::step(&RULES, &mut state, given(mask, 0), &mut answer), Err(refusal(8, 0)));
+    assert_eq!(answer, [UNTOUCHED; ANSWER]);
+    let answered = ticks(&RULES, &mut state, &[0; RECORD], &mut answer);
+    match read(numbers) {
+        None => assert_eq!((answered, answer), (Err(refusal(8, 0)), [UNTOUCHED; ANSWER])),
+        Some(_) => assert_eq!((answered, &answer[4..]), (Ok(1), &[0, 0, 0, 0, 3, 8, 0, 0][..])),
+    }
+    assert_eq!(state, numbers);
+}
+
 #[test]
 fn every_clause_is_damaged_alone() {
-    for (clause, _) in WELL_FORMED {
-        assert!(DAMAGES.iter().any(|damage| damage.clause == *clause && damage.alone), "{clause}");
+    let clauses = WELL_FORMED.iter().map(|(clause, _)| *clause).chain([READABLE]);
+    for clause in clauses {
+        assert!(DAMAGES.iter().any(|damage| damage.clause == clause && damage.alone), "{clause}");
     }
+}
+
+/// A fresh P3 with a number in an arrival past its last row: a tick that names that task must not
+/// clear it.
+#[test]
+fn a_stray_number_is_no_machines() {
+    for stray in [77, 123] {
+        let mut state = numbers_of(&started(&P3));
+        state[48] = stray;
+        assert_eq!(read(&state), None);
+        assert_refused_with_8(&state, 1 << 5);
+    }
+}
+
+fn given(mask: u32, early: u8) -> Given {
+    Given { mask, signal: 0, early }
+}
+
+/// The answer, and whether anything was touched.
+fn stepped(machine: &Machine, given: Given, length: usize) -> (Answer, bool) {
+    let (mut state, mut answer) = (numbers_of(machine), vec![UNTOUCHED; length]);
+    let answered = numbers::step(&RULES, &mut state, given, &mut answer);
+    (answered, state != numbers_of(machine) || answer != vec![UNTOUCHED; length])
+}
+
+#[test]
+fn a_step_is_refused_by_number_17_18_8_and_by_the_tick_rule() {
+    let (fresh, none) = (started(&P3), WITHOUT_ROWS);
+    for (machine, mask, early, length, number, place) in [
+        (none, 2, 2, 11, 17, 0),
+        (fresh, 0, 255, 12, 17, 0),
+        (none, 2, 1, 11, 18, 12),
+        (fresh, 0, 0, 0, 18, 12),
+        (none, 2, 1, 12, 8, 0),
+        (fresh, 2, 1, 12, 10, 2),
+    ] {
+        let refused = Err(refusal(number, place));
+        assert_eq!(stepped(&machine, given(mask, early), length), (refused, false));
+    }
+    assert_eq!(stepped(&fresh, given(1, 1), 12), (Ok(0), true));
+}
+
+/// Steps leave the machine and the answers that a run of the same ticks leaves; the byte past an
+/// answer stays as it was.
+#[test]
+fn steps_are_a_run_of_ticks() {
+    let records: [u8; 3 * RECORD] = [1, 0, 0, 0, 0, 0, 0, 0, 0, 0, 0, 0, 7, 1, 0, 0, 0, 0, 0, 0, 1, 0, 0, 0];
+    let (mut run, mut answers) = (numbers_of(&started(&P3)), [0; 3 * ANSWER]);
+    let mut by_steps = run;
+    assert_eq!(ticks(&RULES, &mut run, &records, &mut answers), Ok(3));
+    for (record, expected) in records.chunks(RECORD).zip(answers.chunks(ANSWER)) {
+        let mut answer = [UNTOUCHED; ANSWER + 1];
+        assert_eq!(numbers::step(&RULES, &mut by_steps, given_by(record), &mut answer), Ok(0));
+        assert_eq!(answer, [expected, &[UNTOUCHED]].concat()[..]);
+    }
+    assert_eq!(by_steps, run);
 }
 
 #[test]
@@ -262,6 +350,6 @@ fn a_machine_is_its_numbers() {
         let machine = hand_built(&mut dice);
         let mut numbers = [u64::MAX; NUMBERS];
         write(&machine, &mut numbers);
-        assert_eq!(read(&numbers), Some(machine));
+        assert_eq!((read(&numbers), numbers), (Some(machine), numbers_of(&machine)));
     }
 }

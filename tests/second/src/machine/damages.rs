@@ -1,7 +1,9 @@
-//! Machines that are well formed but for one clause.
+//! Machines that are well formed but for one clause, and numbers that would be a well formed machine
+//! but for one of them.
 
 use crate::dice::Dice;
 use crate::machine::made_up::{any_row, hand_built_at, LATE_CLOCKS};
+use crate::machine::numbers::numbers_of;
 use crate::machine::state::{Machine, Row, Stage, LAST_CLOCK, NO_ROW, PLACES, WITHOUT_ROWS};
 
 /// Beyond 32 bits: a number that is cut down to them is a small one again.
@@ -10,7 +12,7 @@ const PAST_A_FIELD: [u32; 3] = [1_000_001, 1 << 31, u32::MAX];
 
 pub struct Damage {
     pub name: &'static str,
-    /// The clause of "well formed" that it breaks.
+    /// The clause of "well formed" that it breaks, or READABLE.
     pub clause: &'static str,
     /// Whether every other clause holds. Some can't be broken alone.
     pub alone: bool,
@@ -24,6 +26,10 @@ enum How {
     OfRow(fn(&mut Dice, &mut Row, u64), Wanted),
     /// A place past the last row is changed.
     OfPlace(fn(&mut Dice, &mut Row)),
+    /// One number of a row, or of a place past the last row, with this stage becomes one of these.
+    OfNumber { past: bool, wanted: Wanted, at: usize, to: &'static [u64] },
+    /// There are so many numbers.
+    TooFew(&'static [usize]),
 }
 
 #[derive(Clone, Copy)]
@@ -36,28 +42,69 @@ enum Wanted {
     NotHyper,
 }
 
+/// The lent numbers, and the machine that they are, or were before one of them was changed.
+#[derive(Debug)]
+pub struct Damaged {
+    pub machine: Machine,
+    pub numbers: Vec<u64>,
+}
+
 impl Damage {
-    pub fn damaged(&self, dice: &mut Dice) -> Machine {
+    pub fn damaged(&self, dice: &mut Dice) -> Damaged {
         match &self.how {
-            How::Whole(make) => make(dice),
+            How::Whole(make) => as_numbers(make(dice)),
             How::OfRow(change, wanted) => {
-                let mut machine = late_machine(dice);
-                let i = dice.from_to(0, machine.count - 1) as usize;
-                let clock = machine.clock;
-                machine.places[i].stage = stage_of(dice, &machine.places[i], *wanted, clock);
-                change(dice, &mut machine.places[i], clock);
-                machine
+                let (mut machine, i) = machine_with_a(dice, *wanted);
+                change(dice, &mut machine.places[i], machine.clock);
+                as_numbers(machine)
             }
             How::OfPlace(change) => {
-                let mut machine = late_machine(dice);
-                machine.count = machine.count.min(PLACES as u64 - 1);
-                machine.places[machine.count as usize..].fill(NO_ROW);
-                let place = dice.from_to(machine.count, PLACES as u64 - 1) as usize;
+                let (mut machine, place) = machine_with_room(dice);
                 change(dice, &mut machine.places[place]);
-                machine
+                as_numbers(machine)
+            }
+            How::OfNumber { past, wanted, at, to } => {
+                let (machine, i) =
+                    if *past { room_with_a(dice, *wanted) } else { machine_with_a(dice, *wanted) };
+                let mut damaged = as_numbers(machine);
+                damaged.numbers[2 + 8 * i + at] = dice.one_of(to);
+                damaged
+            }
+            How::TooFew(lengths) => {
+                let mut damaged = as_numbers(late_machine(dice));
+                damaged.numbers.truncate(dice.one_of(lengths));
+                damaged
             }
         }
     }
+}
+
+fn as_numbers(machine: Machine) -> Damaged {
+    Damaged { machine, numbers: numbers_of(&machine).to_vec() }
+}
+
+/// A row of a machine has this stage; which one.
+fn machine_with_a(dice: &mut Dice, wanted: Wanted) -> (Machine, usize) {
+    let mut machine = late_machine(dice);
+    let i = dice.from_to(0, machine.count - 1) as usize;
+    machine.places[i].stage = stage_of(dice, &machine.places[i], wanted, machine.clock);
+    (machine, i)
+}
+
+/// A machine has places past its last row; one of them.
+fn machine_with_room(dice: &mut Dice) -> (Machine, usize) {
+    let mut machine = late_machine(dice);
+    machine.count = machine.count.min(PLACES as u64 - 1);
+    machine.places[machine.count as usize..].fill(NO_ROW);
+    let place = dice.from_to(machine.count, PLACES as u64 - 1) as usize;
+    (machine, place)
+}
+
+/// The same with this stage there.
+fn room_with_a(dice: &mut Dice, wanted: Wanted) -> (Machine, usize) {
+    let (mut machine, place) = machine_with_room(dice);
+    machine.places[place].stage = stage_of(dice, &NO_ROW, wanted, machine.clock);
+    (machine, place)
 }
 
 const fn whole(name: &'static str, clause: &'static str, make: fn(&mut Dice) -> Machine) -> Damage {
@@ -77,9 +124,22 @@ const fn place(name: &'static str, change: fn(&mut Dice, &mut Row)) -> Damage {
     Damage { name, clause: PAST, alone: true, how: How::OfPlace(change) }
 }
 
+/// In a row with this stage.
+const fn number(name: &'static str, wanted: Wanted, at: usize, to: &'static [u64]) -> Damage {
+    Damage { name, clause: READABLE, alone: true, how: How::OfNumber { past: false, wanted, at, to } }
+}
+
+/// In a place past the last row, which has this stage.
+const fn number_past(name: &'static str, wanted: Wanted, at: usize, to: &'static [u64]) -> Damage {
+    Damage { name, clause: READABLE, alone: true, how: How::OfNumber { past: true, wanted, at, to } }
+}
+
 const fn not_alone(damage: Damage) -> Damage {
     Damage { alone: false, ..damage }
 }
+
+/// Numbers that can't be read are no machine: no clause is looked at.
+pub const READABLE: &str = "the numbers can be read";
 
 const COUNT: &str = "1 to 32 rows";
 const LIMITS: &str = "rows within the limits";
@@ -176,7 +236,38 @@ pub const DAMAGES: &[Damage] = &[
     place("Hyper past the last row", |_, row| row.stage = Stage::Hyper { arrival: 0, left: 0 }),
     place("Closed past the last row", |_, row| row.stage = Stage::Closed { arrival: 0 }),
     place("a whole row past the last row", |dice, row| *row = any_row(dice)),
+    Damage {
+        name: "too few numbers",
+        clause: READABLE,
+        alone: true,
+        how: How::TooFew(&[0, 1, 2, 10, 256, 257]),
+    },
+    number("T of 2^32 or more", Wanted::NotHyper, 0, WIDE),
+    number("D of 2^32 or more", Wanted::NotHyper, 1, WIDE),
+    number("C of 2^32 or more", Wanted::NotHyper, 2, WIDE),
+    number("K of 2^32 or more", Wanted::NotHyper, 3, WIDE),
+    number("E of 2^32 or more", Wanted::NotHyper, 4, WIDE),
+    number_past("T of 2^32 past the last row", Wanted::Never, 0, WIDE),
+    number_past("D of 2^32 past the last row", Wanted::Never, 1, WIDE),
+    number_past("C of 2^32 past the last row", Wanted::Never, 2, WIDE),
+    number_past("K of 2^32 past the last row", Wanted::Never, 3, WIDE),
+    number_past("E of 2^32 past the last row", Wanted::Never, 4, WIDE),
+    number("stage above 3", Wanted::Closed, 5, NO_STAGE),
+    number_past("stage above 3 past the last row", Wanted::Never, 5, NO_STAGE),
+    number("arrival of a Never", Wanted::Never, 6, STRAY),
+    number("ticks of a Never", Wanted::Never, 7, STRAY),
+    number("ticks of a Closed", Wanted::Closed, 7, STRAY),
+    number_past("arrival of a Never past the last row", Wanted::Never, 6, STRAY),
+    number_past("ticks of a Never past the last row", Wanted::Never, 7, STRAY),
+    not_alone(number_past("ticks of a Closed past the last row", Wanted::Closed, 7, STRAY)),
 ];
+
+/// Fields that have no room in 32 bits; cut down to them they are small.
+const WIDE: &[u64] = &[BEYOND, BEYOND + 1, BEYOND + 1_000, 1 << 40, u64::MAX];
+/// Numbers of no stage; cut down to 8 or 32 bits some are.
+const NO_STAGE: &[u64] = &[4, 5, 255, 256, 257, BEYOND, BEYOND + 3, u64::MAX];
+/// Numbers where the stage has no use for one.
+const STRAY: &[u64] = &[1, 77, 123, 1 << 40, u64::MAX];
 
 /// So late that every stage has room for its arrival.
 fn late_clock(dice: &mut Dice) -> u64 {

@@ -4,11 +4,11 @@
 #![allow(non_snake_case)]
 
 use crate::dice::Dice;
-use crate::machine::damages::DAMAGES;
-use crate::machine::numbers::{write, ANSWER, NUMBERS, RECORD};
+use crate::machine::damages::{Damaged, DAMAGES};
+use crate::machine::numbers::{given_by, numbers_of, ANSWER, NUMBERS, RECORD};
 use crate::machine::rules::start;
 use crate::machine::scripts::{script, Met};
-use crate::machine::state::{Machine, Row, Stage, LAST_CLOCK, PLACES, WITHOUT_ROWS};
+use crate::machine::state::{Given, Machine, Row, Stage, LAST_CLOCK, WITHOUT_ROWS};
 use crate::tables::made_up as tables;
 use crate::turns::in_turns;
 
@@ -33,9 +33,9 @@ pub enum Kind {
     HandBuilt,
     /// Hand-built, with a clock that reaches 2^40.
     NearTheLastClock,
-    /// Well formed but for one clause.
+    /// Well formed but for one clause, or numbers that can't be read.
     Damaged,
-    /// With lent memory, records or numbers that are too short, too long or none of a machine.
+    /// With lent memory or records that are too short or too long.
     Lent,
 }
 
@@ -50,6 +50,16 @@ pub enum Begin {
 pub struct Call {
     pub records: Vec<u8>,
     pub answers: usize,
+    /// A tick by itself before the call, on a copy of the machine: it may be refused where the
+    /// same record in a run of them is taken.
+    pub step: Option<Step>,
+}
+
+/// One tick, and how many bytes are lent for its answer.
+#[derive(Clone, Copy)]
+pub struct Step {
+    pub given: Given,
+    pub answer: usize,
 }
 
 pub struct Case {
@@ -91,27 +101,38 @@ pub fn hand_on(seed: u64, take: &mut dyn FnMut(&Case) -> bool) {
 }
 
 /// The script's records in one call mostly, in calls of a few records or of one at times: so the
-/// machine is looked at within the script too.
+/// machine is looked at within the script too. Those that go record by record go by steps too.
 fn calls(dice: &mut Dice, records: Vec<u8>) -> Vec<Call> {
-    let in_a_call = match dice.from_to(0, 19) {
-        0 => 1,
-        1 => dice.from_to(2, 9) as usize,
-        _ => usize::MAX / RECORD,
-    };
-    let call = |part: &[u8]| Call { records: part.to_vec(), answers: part.len() / RECORD * ANSWER };
+    match dice.from_to(0, 19) {
+        0 => stepped(dice, calls_of(1, &records)),
+        1 => calls_of(dice.from_to(2, 9) as usize, &records),
+        _ => calls_of(usize::MAX / RECORD, &records),
+    }
+}
+
+fn calls_of(in_a_call: usize, records: &[u8]) -> Vec<Call> {
+    let call =
+        |part: &[u8]| Call { records: part.to_vec(), answers: part.len() / RECORD * ANSWER, step: None };
     records.chunks(RECORD * in_a_call).map(call).collect()
 }
 
-fn numbers_of(machine: &Machine) -> Vec<u64> {
-    let mut numbers = vec![0; NUMBERS];
-    write(machine, &mut numbers);
-    numbers
+/// Each call with its first record as a step.
+fn stepped(dice: &mut Dice, calls: Vec<Call>) -> Vec<Call> {
+    let step =
+        |call: Call| Call { step: call.records.get(..RECORD).map(|record| step_of(dice, record)), ..call };
+    calls.into_iter().map(step).collect()
+}
+
+/// With room for its answer mostly, too little at times or more.
+fn step_of(dice: &mut Dice, record: &[u8]) -> Step {
+    let any = dice.from_to(0, ANSWER as u64 + 1) as usize;
+    Step { given: given_by(record), answer: if dice.percent(80) { ANSWER } else { any } }
 }
 
 fn on_machine(dice: &mut Dice, kind: Kind, machine: Machine, ticks: u64) -> Case {
     let (records, met) = script(dice, machine, ticks);
     let calls = calls(dice, records);
-    Case { kind, damage: None, begin: Begin::Numbers(numbers_of(&machine)), calls, met }
+    Case { kind, damage: None, begin: Begin::Numbers(numbers_of(&machine).to_vec()), calls, met }
 }
 
 fn on_table(dice: &mut Dice, kind: Kind, table: Vec<u32>, ticks: u64) -> Case {
@@ -275,13 +296,15 @@ fn any_stage(dice: &mut Dice, row: &Row, clock: u64, may_start: &mut bool) -> St
 }
 
 fn damaged(dice: &mut Dice, damage: usize) -> Case {
-    let machine = DAMAGES[damage].damaged(dice);
+    let Damaged { machine, numbers } = DAMAGES[damage].damaged(dice);
     let ticks = dice.from_to(1, 4);
-    let case = on_machine(dice, Kind::Damaged, machine, ticks);
-    Case { damage: Some(damage), ..case }
+    let (records, met) = script(dice, machine, ticks);
+    let calls = calls(dice, records);
+    let calls = stepped(dice, calls);
+    Case { kind: Kind::Damaged, damage: Some(damage), begin: Begin::Numbers(numbers), calls, met }
 }
 
-// Lent memory and numbers that are not as they should be.
+// Lent memory that is not as it should be.
 
 fn lent(dice: &mut Dice) -> Case {
     let rows = dice.from_to(1, 8);
@@ -291,20 +314,14 @@ fn lent(dice: &mut Dice) -> Case {
     let machine = if dice.percent(70) { hand_built(dice) } else { WITHOUT_ROWS };
     let ticks = dice.from_to(0, 6);
     let (records, met) = script(dice, machine, ticks);
-    let mut call = Call { answers: records.len() / RECORD * ANSWER, records };
-    let mut numbers = numbers_of(&machine);
-    match dice.from_to(0, 6) {
-        0 => numbers.truncate(dice.one_of(&[0, 1, 2, 10, 256, 257])),
-        1 => numbers.resize(dice.one_of(&[258, 259, 300]), 77),
-        2 => call.answers = call.answers.saturating_sub(dice.one_of(&[1, 11, 12, 13, 24])),
-        3 => call.answers += dice.from_to(1, 30) as usize,
-        4 => change_length(dice, &mut call.records),
-        5 => no_machine(dice, &mut numbers),
-        _ => spare_numbers(dice, &mut numbers),
-    }
-    if dice.percent(20) {
-        // Spare numbers stay as they are where no tick is answered.
-        spare_numbers(dice, &mut numbers);
+    let step = records.get(..RECORD).map(|record| step_of(dice, record));
+    let mut call = Call { answers: records.len() / RECORD * ANSWER, records, step };
+    let mut numbers = numbers_of(&machine).to_vec();
+    match dice.from_to(0, 3) {
+        0 => numbers.resize(dice.one_of(&[258, 259, 300]), 77),
+        1 => call.answers = call.answers.saturating_sub(dice.one_of(&[1, 11, 12, 13, 24])),
+        2 => call.answers += dice.from_to(1, 30) as usize,
+        _ => change_length(dice, &mut call.records),
     }
     Case { kind: Kind::Lent, damage: None, begin: Begin::Numbers(numbers), calls: vec![call], met }
 }
@@ -322,29 +339,5 @@ fn change_length(dice: &mut Dice, records: &mut Vec<u8>) {
         records.truncate(records.len().saturating_sub(dice.from_to(1, 9) as usize));
     } else {
         records.resize(records.len() + dice.from_to(1, 9) as usize, 0);
-    }
-}
-
-/// A stage above 3 or a field beyond 32 bits, in any place. Some are small again when they are
-/// cut down to 8 or 32 bits.
-fn no_machine(dice: &mut Dice, numbers: &mut [u64]) {
-    let place = 2 + 8 * dice.from_to(0, PLACES as u64 - 1) as usize;
-    if dice.percent(50) {
-        numbers[place + 5] = dice.one_of(&[4, 5, 255, 256, 257, 1 << 32, (1 << 32) + 1, u64::MAX]);
-    } else {
-        let field = place + dice.from_to(0, 4) as usize;
-        numbers[field] = dice.one_of(&[1 << 32, (1 << 32) + numbers[field], u64::MAX]);
-    }
-}
-
-/// Numbers that the stage has no use for.
-fn spare_numbers(dice: &mut Dice, numbers: &mut [u64]) {
-    for place in numbers.iter_mut().skip(2).collect::<Vec<_>>().chunks_exact_mut(8).take(PLACES) {
-        let spare = dice.one_of(&[1, 1 << 40, u64::MAX]);
-        match *place[5] {
-            0 if dice.percent(30) => *place[6] = spare,
-            0 | 3 if dice.percent(30) => *place[7] = spare,
-            _ => {}
-        }
     }
 }

@@ -50,6 +50,14 @@ pub struct Tick {
     pub early: bool,
 }
 
+/// A tick as it is given: any byte may stand for its early mark.
+#[derive(Clone, Copy, Debug, PartialEq, Eq)]
+pub struct Given {
+    pub mask: u32,
+    pub signal: u8,
+    pub early: u8,
+}
+
 /// Who ran, with the task.
 #[derive(Clone, Copy, Debug, PartialEq, Eq)]
 pub enum Who {

@@ -1,5 +1,6 @@
 //! Compares the library's machine with the second program's, case by case: the answers of the
-//! start and of every tick, the whole machine after each call, and every place around them.
+//! start and of every tick, in a run and by itself, the whole machine after each call, and every
+//! place around them.
 //!
 //!     compare_machine [SEED]               the library
 //!     compare_machine --self-test [SEED]   machines with one fault each: every one must be noticed
@@ -7,15 +8,16 @@
 #[path = "../library.rs"]
 mod library;
 mod outcome;
+mod steps;
 mod tally;
 
-use outcome::{outcome, Called, Library, Outcome};
+use outcome::{outcome, Called, Library, Outcome, Stepped};
 use second::command::compare_main;
 use second::lent::{Lent, Pattern};
 use second::machine::broken::{BROKEN, SECOND};
 use second::machine::damages::DAMAGES;
 use second::machine::made_up::{hand_on, Begin, Case};
-use second::machine::numbers::ticks;
+use second::machine::numbers::{ticks, ANSWER, NUMBERS, RECORD};
 use second::machine::rules::RULES;
 use second::self_test::SelfTest;
 use std::process::ExitCode;
@@ -64,9 +66,13 @@ fn show(case: &Case, expected: &Outcome, found: &Outcome) {
 }
 
 fn show_call(case: &Case, number: usize, expected: &Called, found: &Called) {
-    println!("  returned: second program {}, library {}", expected.returned, found.returned);
+    if let (Some(expected), Some(found)) = (&expected.stepped, &found.stepped) {
+        show_step(case, number, expected, found);
+    }
+    println!("  returned: second program {:?}, library {:?}", expected.returned, found.returned);
     show_differences("the records", &expected.records, &found.records);
-    let answers = |called: &Called| called.answers.part().chunks(12).map(<[u8]>::to_vec).collect::<Vec<_>>();
+    let answers =
+        |called: &Called| called.answers.part().chunks(ANSWER).map(<[u8]>::to_vec).collect::<Vec<_>>();
     let (mine, others) = (answers(expected), answers(found));
     if let Some(tick) = (0..mine.len()).find(|&tick| mine[tick] != others[tick]) {
         println!("  answer {tick}: second program {:?}, library {:?}", mine[tick], others[tick]);
@@ -77,18 +83,35 @@ fn show_call(case: &Case, number: usize, expected: &Called, found: &Called) {
     show_differences("the machine", &expected.state, &found.state);
 }
 
+fn show_step(case: &Case, number: usize, expected: &Stepped, found: &Stepped) {
+    if expected == found {
+        return;
+    }
+    println!("  stepped before it: second program {:?}, library {:?}", expected.returned, found.returned);
+    show_differences("the step's answer", &expected.answer, &found.answer);
+    show_differences("the machine stepped", &expected.state, &found.state);
+    show_before(case, number, 0);
+}
+
 /// The machine that the tick came to, and the tick.
 fn show_before(case: &Case, number: usize, tick: usize) {
     let begun = outcome(&Case { calls: vec![], begin: begin_of(case), ..*case }, &SECOND);
     let mut state = begun.begin.part().to_vec();
+    let mut take = |records: &[u8], answers: usize| {
+        let _ = ticks(&RULES, &mut state, records, &mut vec![0; answers]);
+    };
     for call in &case.calls[..number] {
-        ticks(&RULES, &mut state, &call.records, &mut vec![0; call.answers]);
+        take(&call.records, call.answers);
     }
     let records = &case.calls[number].records;
-    ticks(&RULES, &mut state, &records[..8 * tick], &mut vec![0; 12 * tick]);
-    println!("  its record: {:?}", &records[8 * tick..8 * tick + 8]);
+    take(&records[..RECORD * tick], ANSWER * tick);
+    println!("  its record: {:?}", &records[RECORD * tick..RECORD * (tick + 1)]);
+    if state.len() < NUMBERS {
+        println!("  before it: {} numbers", state.len());
+        return;
+    }
     println!("  before it: count {}, clock {}", state[0], state[1]);
-    for (i, place) in state[2..].chunks(8).enumerate().filter(|(_, place)| **place != [0; 8]) {
+    for (i, place) in state[2..NUMBERS].chunks(8).enumerate().filter(|(_, place)| **place != [0; 8]) {
         println!("    {}: T D C K E {:?}, stage {}, {:?}", i + 1, &place[..5], place[5], &place[6..]);
     }
 }

@@ -5,12 +5,14 @@ use crate::library;
 use second::answer::Answer;
 use second::lent::Lent;
 use second::machine::broken::Program;
-use second::machine::made_up::{Begin, Call, Case};
+use second::machine::made_up::{Begin, Call, Case, Step};
+use second::machine::state::Given;
 
 /// A program that starts machines and takes ticks: the library, or one like the second program.
 pub trait Runs {
     fn start(&self, table: &mut Lent<u32>, state: &mut Lent<u64>) -> Answer;
-    fn ticks(&self, state: &mut Lent<u64>, records: &mut Lent<u8>, answers: &mut Lent<u8>) -> u64;
+    fn ticks(&self, state: &mut Lent<u64>, records: &mut Lent<u8>, answers: &mut Lent<u8>) -> Answer;
+    fn step(&self, state: &mut Lent<u64>, given: Given, answer: &mut Lent<u8>) -> Answer;
 }
 
 impl Runs for Program {
@@ -18,8 +20,12 @@ impl Runs for Program {
         (self.start)(&self.rules, table.part(), state.part_to_write())
     }
 
-    fn ticks(&self, state: &mut Lent<u64>, records: &mut Lent<u8>, answers: &mut Lent<u8>) -> u64 {
+    fn ticks(&self, state: &mut Lent<u64>, records: &mut Lent<u8>, answers: &mut Lent<u8>) -> Answer {
         (self.ticks)(&self.rules, state.part_to_write(), records.part(), answers.part_to_write())
+    }
+
+    fn step(&self, state: &mut Lent<u64>, given: Given, answer: &mut Lent<u8>) -> Answer {
+        (self.step)(&self.rules, state.part_to_write(), given, answer.part_to_write())
     }
 }
 
@@ -30,8 +36,12 @@ impl Runs for Library {
         library::start(table, state)
     }
 
-    fn ticks(&self, state: &mut Lent<u64>, records: &mut Lent<u8>, answers: &mut Lent<u8>) -> u64 {
-        library::ticks(state, records, answers).unwrap_or(0)
+    fn ticks(&self, state: &mut Lent<u64>, records: &mut Lent<u8>, answers: &mut Lent<u8>) -> Answer {
+        library::ticks(state, records, answers)
+    }
+
+    fn step(&self, state: &mut Lent<u64>, given: Given, answer: &mut Lent<u8>) -> Answer {
+        library::step(state, given, answer)
     }
 }
 
@@ -45,13 +55,21 @@ pub struct Outcome {
     pub calls: Vec<Called>,
 }
 
-/// What one call has left behind.
+/// What one call has left behind, and the step before it.
 #[derive(PartialEq, Eq)]
 pub struct Called {
-    pub returned: u64,
+    pub stepped: Option<Stepped>,
+    pub returned: Answer,
     pub state: Lent<u64>,
     pub records: Lent<u8>,
     pub answers: Lent<u8>,
+}
+
+#[derive(PartialEq, Eq)]
+pub struct Stepped {
+    pub returned: Answer,
+    pub state: Lent<u64>,
+    pub answer: Lent<u8>,
 }
 
 pub fn outcome(case: &Case, runs: &impl Runs) -> Outcome {
@@ -72,8 +90,15 @@ pub fn outcome(case: &Case, runs: &impl Runs) -> Outcome {
 }
 
 fn called(call: &Call, runs: &impl Runs, state: &mut Lent<u64>) -> Called {
+    let stepped = call.step.map(|step| stepped(step, runs, state.clone()));
     let mut records = Lent::holding(&call.records);
     let mut answers = Lent::new(call.answers);
     let returned = runs.ticks(state, &mut records, &mut answers);
-    Called { returned, state: state.clone(), records, answers }
+    Called { stepped, returned, state: state.clone(), records, answers }
+}
+
+fn stepped(step: Step, runs: &impl Runs, mut state: Lent<u64>) -> Stepped {
+    let mut answer = Lent::new(step.answer);
+    let returned = runs.step(&mut state, step.given, &mut answer);
+    Stepped { returned, state, answer }
 }

@@ -1,8 +1,12 @@
 //! What a run of the comparison has met, and whether that is enough.
 
-use crate::outcome::Outcome;
-use second::machine::damages::DAMAGES;
-use second::machine::made_up::{Begin, Case, KINDS};
+use crate::outcome::{Called, Outcome};
+use crate::steps::{self, Steps};
+use second::answer::refusal;
+use second::lent::Lent;
+use second::machine::damages::{DAMAGES, READABLE};
+use second::machine::made_up::{Begin, Call, Case, KINDS};
+use second::machine::numbers::{ANSWER, RECORD};
 use second::machine::scripts::Met;
 use second::met::{demand, is_good, kind_lines, line, name, Counts, Demand};
 
@@ -35,6 +39,7 @@ pub struct Tally {
     marks: [usize; MARKS.len()],
     ignored: usize,
     refused: Counts<u32>,
+    steps: Steps,
     of_damage: Counts<usize>,
     /// Damaged machines that are not answered with 8 at place 0 and given back as they were.
     damage_unseen: usize,
@@ -50,12 +55,7 @@ impl Tally {
         self.different += usize::from(!same);
         self.count_start(expected);
         for (called, call) in expected.calls.iter().zip(&case.calls) {
-            self.calls += 1;
-            self.ticks += called.returned as usize;
-            self.cut_short += usize::from((called.returned as usize) < call.records.len().div_ceil(8));
-            for answer in called.answers.part().chunks_exact(12).take(called.returned as usize) {
-                self.count_answer(answer);
-            }
+            self.count_call(case, call, called);
         }
         for (name, times) in case.met.counts() {
             self.met.meet_times(name, times);
@@ -74,6 +74,19 @@ impl Tally {
             }
             Some(Err(refusal)) => self.start_refused.meet(refusal.number),
             None => {}
+        }
+    }
+
+    fn count_call(&mut self, case: &Case, call: &Call, called: &Called) {
+        let ticks = called.returned.unwrap_or(0) as usize;
+        self.calls += 1;
+        self.ticks += ticks;
+        self.cut_short += usize::from(ticks < call.records.len().div_ceil(RECORD));
+        for answer in called.answers.part().chunks_exact(ANSWER).take(ticks) {
+            self.count_answer(answer);
+        }
+        if let (Some(step), Some(stepped)) = (call.step, &called.stepped) {
+            self.steps.count(case, step, stepped);
         }
     }
 
@@ -119,6 +132,10 @@ impl Tally {
         for (i, damage) in DAMAGES.iter().enumerate() {
             line(&format!("  {}", damage.name), self.of_damage.of(i));
         }
+        println!("ticks given by themselves");
+        for (name, count, _) in self.steps.demands() {
+            line(&format!("  {name}"), count);
+        }
         line("different", self.different);
     }
 
@@ -150,6 +167,7 @@ impl Tally {
         for (i, damage) in DAMAGES.iter().enumerate() {
             demands.push(demand(damage.name, self.of_damage.of(i), FEWEST_OF_ANYTHING));
         }
+        demands.extend(self.steps.demands());
         demands
     }
 
@@ -161,11 +179,26 @@ impl Tally {
 }
 
 fn is_refused_with_8_throughout(case: &Case, expected: &Outcome) -> bool {
-    let Begin::Numbers(numbers) = &case.begin else {
+    let (Begin::Numbers(numbers), Some(damage)) = (&case.begin, case.damage) else {
         return false;
     };
-    expected.calls.iter().all(|called| {
-        let mut answers = called.answers.part().chunks_exact(12);
-        called.state.part() == numbers && answers.all(|answer| answer[4..] == [0, 0, 0, 0, 3, 8, 0, 0])
+    let numbers = Lent::holding(numbers);
+    let readable = DAMAGES[damage].clause != READABLE;
+    expected.calls.iter().zip(&case.calls).all(|(called, call)| {
+        let said = if readable { says_8(called) } else { is_refused_with_8(call, called) };
+        let mut steps = called.stepped.iter().zip(call.step);
+        let stepped = steps.all(|(stepped, step)| steps::is_refused(case, step, stepped, &numbers));
+        said && stepped && called.state == numbers
     })
+}
+
+/// Every tick is answered with 8.
+fn says_8(called: &Called) -> bool {
+    let mut answers = called.answers.part().chunks_exact(ANSWER);
+    called.returned.is_ok() && answers.all(|answer| answer[4..] == [0, 0, 0, 0, 3, 8, 0, 0])
+}
+
+/// No tick is answered.
+fn is_refused_with_8(call: &Call, called: &Called) -> bool {
+    called.returned == Err(refusal(8, 0)) && called.answers == Lent::new(call.answers)
 }
