@@ -1,15 +1,8 @@
-//! Tells the linker where the two libraries lie: TOLLSALMON_LIB, or the repository's target/staticlib.
+//! Tells the linker where the two libraries lie.
 
-use std::env;
-use std::path::PathBuf;
+#[path = "../tests/second/link_search.rs"]
+mod link_search;
 
 fn main() {
-    let default = || PathBuf::from(env::var("CARGO_MANIFEST_DIR").unwrap()).join("../target/staticlib");
-    let folder = env::var("TOLLSALMON_LIB").map_or_else(|_| default(), PathBuf::from);
-    println!("cargo:rerun-if-changed=build.rs");
-    println!("cargo:rerun-if-env-changed=TOLLSALMON_LIB");
-    for library in ["libexport.a", "libpace.a"] {
-        println!("cargo:rerun-if-changed={}", folder.join(library).display());
-    }
-    println!("cargo:rustc-link-search=native={}", folder.display());
+    link_search::link_search("..", &["libtollsalmon.a", "libpace.a"]);
 }

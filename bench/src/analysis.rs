@@ -1,23 +1,14 @@
 //! The analysis as one would write it in plain Rust: every search starts at its least value and
 //! repeats x := f(x).
 
-const LARGEST_FIELD: u32 = 1_000_000;
+// What is measured keeps its shape.
+#![allow(clippy::needless_range_loop, clippy::manual_div_ceil)]
+
+use crate::answer::{refusal, Answer, Refusal};
+use crate::machine::state::PLACES as MOST_TASKS;
+
+pub const LARGEST_FIELD: u32 = 1_000_000;
 const LONGEST_ACTIVE_PERIOD: u64 = 4_000_000;
-const MOST_TASKS: usize = 32;
-
-/// The number and the place of a refusal.
-#[derive(Clone, Copy, Debug, PartialEq, Eq)]
-pub struct Refusal {
-    pub number: u32,
-    pub place: u64,
-}
-
-/// Accepted with the number of tasks, or refused.
-pub type Answer = Result<u64, Refusal>;
-
-fn refusal(number: u32, place: usize) -> Refusal {
-    Refusal { number, place: place as u64 }
-}
 
 #[derive(Clone, Copy, Default)]
 struct Row {

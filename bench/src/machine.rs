@@ -1,36 +1,15 @@
 //! The machine as one would write it in plain Rust: rows and their stages by value, one walk over
-//! the rows for what must hold of a state, one over the arrivals and one for the tick.
+//! the rows for what must hold of a state, one over the arrivals and one for the tick. What a machine
+//! is, and its numbers, are the second program's. The tick is not: that one is written to be read
+//! beside document 01, clause by clause, this one to be fast.
 
-pub const PLACES: usize = 32;
-const LAST_CLOCK: u64 = 1 << 40;
-const LARGEST_FIELD: u32 = 1_000_000;
+#[path = "../../tests/second/src/machine/numbers.rs"]
+pub mod numbers;
+#[path = "../../tests/second/src/machine/state.rs"]
+pub mod state;
 
-#[derive(Clone, Copy, Debug, PartialEq, Eq)]
-pub enum Stage {
-    Never,
-    Guest { arrival: u64, used: u64 },
-    Hyper { arrival: u64, left: u64 },
-    Closed { arrival: u64 },
-}
-
-#[derive(Clone, Copy, Debug, PartialEq, Eq)]
-pub struct Row {
-    pub period: u32,
-    pub deadline: u32,
-    pub guest: u32,
-    pub hyper: u32,
-    pub offset: u32,
-    pub stage: Stage,
-}
-
-const EMPTY: Row = Row { period: 0, deadline: 0, guest: 0, hyper: 0, offset: 0, stage: Stage::Never };
-
-#[derive(Clone, Copy, Debug, PartialEq, Eq)]
-pub struct Machine {
-    pub count: u64,
-    pub clock: u64,
-    pub rows: [Row; PLACES],
-}
+use crate::analysis::LARGEST_FIELD;
+use state::{Machine, Mark, Row, Stage, LAST_CLOCK, NO_ROW, PLACES};
 
 #[derive(Clone, Copy, Debug, PartialEq, Eq)]
 pub enum Who {
@@ -38,13 +17,6 @@ pub enum Who {
     Guest,
     Hypertask,
     Refused,
-}
-
-#[derive(Clone, Copy, Debug, PartialEq, Eq)]
-pub enum Mark {
-    Neither,
-    Output,
-    BudgetUsedUp,
 }
 
 /// Who ran and what came of it, or the number and the place of a refusal.
@@ -65,25 +37,25 @@ pub struct Stepped {
 impl Row {
     fn is_well_formed(&self, clock: u64) -> bool {
         let within = |field: u32| (1..=LARGEST_FIELD).contains(&field);
-        let fields = within(self.period) && within(self.deadline) && within(self.guest) && within(self.hyper);
-        if !fields || self.deadline > self.period || self.offset < 1 || self.offset >= self.deadline {
+        let fields = within(self.T) && within(self.D) && within(self.C) && within(self.K);
+        if !fields || self.D > self.T || self.E < 1 || self.E >= self.D {
             return false;
         }
-        let offset = u64::from(self.offset);
+        let offset = u64::from(self.E);
         match self.stage {
             Stage::Never => true,
             Stage::Guest { arrival, used } => {
-                arrival <= clock && used <= self.guest.into() && clock <= arrival + offset
+                arrival <= clock && used <= self.C.into() && clock <= arrival + offset
             }
             Stage::Hyper { arrival, left } => {
-                arrival <= clock && 1 <= left && left <= self.hyper.into() && clock > arrival + offset
+                arrival <= clock && 1 <= left && left <= self.K.into() && clock > arrival + offset
             }
             Stage::Closed { arrival } => arrival <= clock,
         }
     }
 
     fn is_started(&self) -> bool {
-        matches!(self.stage, Stage::Hyper { left, .. } if left < self.hyper.into())
+        matches!(self.stage, Stage::Hyper { left, .. } if left < self.K.into())
     }
 }
 
@@ -105,8 +77,6 @@ impl Answer {
 }
 
 impl Machine {
-    pub const NONE: Machine = Machine { count: 0, clock: 0, rows: [EMPTY; PLACES] };
-
     #[inline(never)]
     pub fn step_called(self, mask: u32, signal: u8, early: bool) -> Stepped {
         self.step_inlined(mask, signal, early)
@@ -137,7 +107,7 @@ impl Machine {
         let mut left = mask;
         while left != 0 {
             let i = left.trailing_zeros();
-            let row = &self.rows[i as usize];
+            let row = &self.places[i as usize];
             let last = match row.stage {
                 Stage::Never => None,
                 Stage::Guest { arrival, .. } | Stage::Closed { arrival } => Some(arrival),
@@ -146,7 +116,7 @@ impl Machine {
                     Some(arrival)
                 }
             };
-            if last.is_some_and(|last| self.clock - last < row.period.into()) {
+            if last.is_some_and(|last| self.clock - last < row.T.into()) {
                 return Some(Answer::refused(11, i + 1));
             }
             left &= left - 1;
@@ -159,7 +129,7 @@ impl Machine {
         if self.count < 1 || self.count > PLACES as u64 || self.clock > LAST_CLOCK {
             return false;
         }
-        let (rows, rest) = self.rows.split_at(self.count as usize);
+        let (rows, rest) = self.places.split_at(self.count as usize);
         let mut started = 0;
         for row in rows {
             if !row.is_well_formed(self.clock) {
@@ -167,17 +137,17 @@ impl Machine {
             }
             started += u32::from(row.is_started());
         }
-        started <= 1 && rest.iter().all(|row| *row == EMPTY)
+        started <= 1 && rest.iter().all(|row| *row == NO_ROW)
     }
 
     #[inline(always)]
     fn take(&mut self, mask: u32, signal: u8, early: bool) -> Answer {
         let clock = self.clock;
         let (mut started, mut hyper, mut guest) = (None, None, None);
-        for (i, row) in self.rows[..self.count as usize].iter_mut().enumerate() {
+        for (i, row) in self.places[..self.count as usize].iter_mut().enumerate() {
             if let Stage::Guest { arrival, .. } = row.stage {
-                if arrival + u64::from(row.offset) == clock {
-                    row.stage = Stage::Hyper { arrival, left: row.hyper.into() };
+                if arrival + u64::from(row.E) == clock {
+                    row.stage = Stage::Hyper { arrival, left: row.K.into() };
                 }
             }
             if mask >> i & 1 == 1 {
@@ -185,12 +155,12 @@ impl Machine {
             }
             match row.stage {
                 Stage::Hyper { left, .. } => {
-                    if left < row.hyper.into() {
+                    if left < row.K.into() {
                         started = Some(i);
                     }
                     hyper = hyper.or(Some(i));
                 }
-                Stage::Guest { used, .. } if used < row.guest.into() => guest = guest.or(Some(i)),
+                Stage::Guest { used, .. } if used < row.C.into() => guest = guest.or(Some(i)),
                 _ => {}
             }
         }
@@ -212,7 +182,7 @@ impl Machine {
 
     #[inline(always)]
     fn run_hypertask(&mut self, i: usize, signal: u8, early: bool) -> Answer {
-        let row = &mut self.rows[i];
+        let row = &mut self.places[i];
         let mut mark = Mark::Neither;
         if let Stage::Hyper { arrival, left } = row.stage {
             if left == 1 || early {
@@ -227,7 +197,7 @@ impl Machine {
 
     #[inline(always)]
     fn run_guest(&mut self, i: usize, signal: u8) -> Answer {
-        let row = &mut self.rows[i];
+        let row = &mut self.places[i];
         let task = i as u8 + 1;
         let mut mark = Mark::Neither;
         if let Stage::Guest { arrival, used } = row.stage {
@@ -236,7 +206,7 @@ impl Machine {
                 mark = Mark::Output;
             } else {
                 row.stage = Stage::Guest { arrival, used: used + 1 };
-                if used + 1 == row.guest.into() {
+                if used + 1 == row.C.into() {
                     mark = Mark::BudgetUsedUp;
                 }
             }

@@ -2,11 +2,12 @@
 //! and a line for each.
 
 use crate::analysis::analyse;
-use crate::machine::{Machine, Mark, Row, Stage, Who};
+use crate::machine::numbers::RECORD;
+use crate::machine::state::{Machine, Mark, Row, Stage, PLACES, WITHOUT_ROWS};
+use crate::machine::Who;
 use std::io::Write;
 
 const ROW: usize = 16;
-const RECORD: usize = 8;
 
 /// Jobs of a task: arrived, guest outputs, hypertask outputs.
 #[derive(Clone, Copy, Default)]
@@ -48,16 +49,15 @@ fn parts(file: &[u8]) -> (&[u8], &[u8]) {
 }
 
 fn fresh(table: &[u32], results: &[u32]) -> Machine {
-    let mut machine = Machine { count: table.len() as u64 / 4, ..Machine::NONE };
-    for (row, (n, r)) in machine.rows.iter_mut().zip(table.chunks_exact(4).zip(results.chunks_exact(3))) {
-        *row =
-            Row { period: n[0], deadline: n[1], guest: n[2], hyper: n[3], offset: r[1], stage: Stage::Never };
+    let mut machine = Machine { count: table.len() as u64 / 4, ..WITHOUT_ROWS };
+    for (row, (n, r)) in machine.places.iter_mut().zip(table.chunks_exact(4).zip(results.chunks_exact(3))) {
+        *row = Row { T: n[0], D: n[1], C: n[2], K: n[3], E: r[1], stage: Stage::Never };
     }
     machine
 }
 
 fn put_ticks(text: &mut Vec<u8>, mut machine: Machine, script: &[u8]) {
-    let mut totals = [Totals::default(); 32];
+    let mut totals = [Totals::default(); PLACES];
     for record in script.chunks_exact(RECORD) {
         let mask = number(record, 0) as u32;
         let clock = machine.clock;

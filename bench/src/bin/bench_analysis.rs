@@ -1,6 +1,7 @@
 //! Tables a second: the library's analysis beside the plain Rust one, on the same tables.
 
-use bench::analysis::{self, Answer, Refusal};
+use bench::analysis;
+use bench::answer::{Answer, Refusal};
 use bench::dice::Dice;
 use bench::interface::tollsalmon_analyse;
 use bench::planner_tables::planner_tables;

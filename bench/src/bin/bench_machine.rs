@@ -2,9 +2,10 @@
 //! the same machines and ticks. Whether the step is inlined into the loop matters, so it is measured
 //! twice: with neither step inlined, as the library is used, and with both.
 
+use bench::calls::*;
 use bench::interface::tollsalmon_ticks;
-use bench::machine::{Machine, Row, Stage};
-use bench::machine_numbers::*;
+use bench::machine::numbers::ANSWER;
+use bench::machine::state::{Machine, Row, Stage, WITHOUT_ROWS};
 use bench::rounds::{alternate, Times};
 use std::hint::black_box;
 use std::time::Duration;
@@ -32,8 +33,21 @@ fn library_repeat(state: &Numbers, (mask, signal, early): (u32, u8, bool), times
 
 fn library_run(state: &mut Numbers, records: &[u8], answers: &mut [u8]) -> u64 {
     let (a, b) = (records.len(), answers.len());
-    // SAFETY: all three pointers are good for the lengths given with them.
-    unsafe { tollsalmon_ticks(state.as_mut_ptr(), state.len(), records.as_ptr(), a, answers.as_mut_ptr(), b) }
+    let mut place = 0;
+    // SAFETY: the pointers are good for the lengths given with them, and `place` for one number.
+    let number = unsafe {
+        tollsalmon_ticks(
+            state.as_mut_ptr(),
+            state.len(),
+            records.as_ptr(),
+            a,
+            answers.as_mut_ptr(),
+            b,
+            &mut place,
+        )
+    };
+    assert_eq!(number, 0, "a state that can't be read");
+    place
 }
 
 /// Ticks to measure.
@@ -132,16 +146,19 @@ fn scenarios(rows: usize) -> Vec<Scenario> {
 /// One row has no guest budget, so that the state isn't well formed.
 fn damaged(rows: usize, place: usize) -> Machine {
     let mut machine = machine(rows, 0, 1, Stage::Never);
-    machine.rows[place].guest = 0;
+    machine.places[place].C = 0;
+    machine
+}
+
+fn filled(rows: usize, clock: u64, row: Row) -> Machine {
+    let mut machine = Machine { count: rows as u64, clock, ..WITHOUT_ROWS };
+    machine.places[..rows].fill(row);
     machine
 }
 
 /// Rows so long that nothing ends within the ticks measured.
 fn machine(rows: usize, clock: u64, offset: u32, stage: Stage) -> Machine {
-    let row = Row { period: LONG, deadline: LONG, guest: LONG, hyper: LONG, offset, stage };
-    let mut machine = Machine { count: rows as u64, clock, ..Machine::NONE };
-    machine.rows[..rows].fill(row);
-    machine
+    filled(rows, clock, Row { T: LONG, D: LONG, C: LONG, K: LONG, E: offset, stage })
 }
 
 /// The tasks arrive in turn, one a tick, each with a period of as many ticks as there are rows
@@ -149,10 +166,8 @@ fn machine(rows: usize, clock: u64, offset: u32, stage: Stage) -> Machine {
 /// that runs and ends. With a single row they come in every other tick.
 fn arrival_and_enforcement(rows: usize) -> Scenario {
     let period = rows.max(2) as u32;
-    let row = Row { period, deadline: period, guest: 1, hyper: 1, offset: period - 1, stage: Stage::Never };
-    let mut machine = Machine { count: rows as u64, ..Machine::NONE };
-    machine.rows[..rows].fill(row);
-    let mut state = numbers(&machine);
+    let row = Row { T: period, D: period, C: 1, K: 1, E: period - 1, stage: Stage::Never };
+    let mut state = numbers(&filled(rows, 0, row));
     let until_it_repeats = records(rows, period, 4 * period as usize);
     run_called(&mut state, &until_it_repeats, &mut vec![0; 12 * 4 * period as usize]);
     let name = if rows == 1 { "arrival, enforcement" } else { "arrival and enforcement" };

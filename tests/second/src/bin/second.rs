@@ -2,7 +2,7 @@
 //!
 //!     second < PLAN
 
-use second::text::text_of_stream;
+use second::text::run::text_of_stream;
 use std::io::{self, Write};
 use std::process::ExitCode;
 

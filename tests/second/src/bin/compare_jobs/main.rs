@@ -4,15 +4,19 @@
 //!     compare_jobs [SEED]               the library
 //!     compare_jobs --self-test [SEED]   programs with one fault each: every one must be noticed
 
-mod broken;
+#[path = "../library.rs"]
 mod library;
 mod tally;
 
-use second::analysis::analyse;
+use second::answer::Refusal;
 use second::command::compare_main;
-use second::job_runs::{made_up, MadeUp, RUNS};
-use second::jobs::{books, Books, Fault, Run};
+use second::jobs::books::{books, Books, Fault, Run};
+use second::jobs::broken;
+use second::jobs::made_up::{made_up, MadeUp, RUNS};
+use second::lent::Lent;
+use second::machine::numbers::{ANSWER, NUMBERS, RECORD};
 use second::self_test::SelfTest;
+use second::tables::analysis::analyse;
 use std::process::ExitCode;
 use tally::Tally;
 
@@ -41,12 +45,36 @@ fn look_at_the_library(seed: u64) -> bool {
 /// The books of the library's run, or why there are none.
 fn books_of_the_library(made_up: &MadeUp) -> Result<Books, String> {
     let MadeUp { table, records, .. } = made_up;
-    let (offsets, expected) = (library::enforcement_offsets(table)?, made_up.E());
+    let (offsets, expected) = (enforcement_offsets(table)?, made_up.E());
     if offsets != expected {
         return Err(format!("E is {offsets:?}, the second program's {expected:?}"));
     }
-    let answers = library::answers(table, records)?;
+    let answers = answers(table, records)?;
     Ok(books(&Run { table, E: &offsets, records, answers: &answers }))
+}
+
+/// The library's E of each row.
+fn enforcement_offsets(table: &[u32]) -> Result<Vec<u32>, String> {
+    let mut results = Lent::new(3 * (table.len() / 4));
+    library::analyse(&mut Lent::holding(table), &mut results).map_err(|why| refused("the analysis", why))?;
+    Ok(results.part().chunks(3).map(|result| result[1]).collect())
+}
+
+/// The library's answers to the records from a fresh start.
+fn answers(table: &[u32], records: &[u8]) -> Result<Vec<u8>, String> {
+    let mut state = Lent::new(NUMBERS);
+    library::start(&mut Lent::holding(table), &mut state).map_err(|why| refused("the start", why))?;
+    let ticks = records.len() / RECORD;
+    let mut answers = Lent::new(ticks * ANSWER);
+    let answered = library::ticks(&mut state, &mut Lent::holding(records), &mut answers);
+    match answered.map_err(|why| refused("the run", why))? {
+        all if all == ticks as u64 => Ok(answers.part().to_vec()),
+        some => Err(format!("{some} of {ticks} ticks are answered")),
+    }
+}
+
+fn refused(what: &str, why: Refusal) -> String {
+    format!("{what} is refused with {}, place {}", why.number, why.place)
 }
 
 /// The first fault, if there is one.

@@ -1,8 +1,8 @@
 //! What a run of the comparison has met, and whether that is enough.
 
-use second::job_runs::{MadeUp, KINDS};
-use second::jobs::Books;
-use second::met::{is_met, line, Demand};
+use second::jobs::books::Books;
+use second::jobs::made_up::{MadeUp, KINDS};
+use second::met::{demand, is_good, kind_lines, line, name, Counts, Demand};
 
 /// A comparison that meets something less often than this shows too little about it.
 const FEWEST_RUNS: usize = 20_000;
@@ -17,9 +17,9 @@ const FEWEST_OPEN: usize = 10_000;
 #[derive(Default)]
 pub struct Tally {
     runs: usize,
-    of_kind: [usize; KINDS.len()],
-    /// Runs by their number of rows, from 1.
-    of_size: [usize; 32],
+    of_kind: Counts<String>,
+    /// Runs by their number of rows.
+    of_rows: Counts<usize>,
     /// Runs in which several jobs of several tasks, or of the only one, were due.
     with_several: usize,
     taken: u64,
@@ -36,8 +36,8 @@ impl Tally {
     /// Counts a run with its books, if there are any, and whether it is a faulty one.
     pub fn count(&mut self, made_up: &MadeUp, books: Option<&Books>, faulty: bool) {
         self.runs += 1;
-        self.of_kind[KINDS.iter().position(|kind| *kind == made_up.kind).unwrap()] += 1;
-        self.of_size[made_up.table.len() / 4 - 1] += 1;
+        self.of_kind.meet(name(made_up.kind));
+        self.of_rows.meet(made_up.table.len() / 4);
         self.faulty += usize::from(faulty);
         if let Some(books) = books {
             self.count_books(books);
@@ -57,15 +57,9 @@ impl Tally {
     }
 
     pub fn print(&self) {
-        println!(
-            "{:<44}{:>9} (1 to 32 rows, at least {} of each)",
-            "runs",
-            self.runs,
-            self.fewest_of_a_size()
-        );
-        for (kind, count) in KINDS.iter().zip(self.of_kind) {
-            line(&format!("  {kind:?}"), count);
-        }
+        line("runs", self.runs);
+        kind_lines(KINDS, &self.of_kind);
+        line("  of 1 to 32 rows, each at least", self.of_rows.fewest(1..=32));
         line("  with several due jobs of several tasks", self.with_several);
         line("ticks taken", self.taken as usize);
         line("ticks refused", self.refused);
@@ -77,34 +71,26 @@ impl Tally {
         line("faulty runs", self.faulty);
     }
 
-    fn fewest_of_a_size(&self) -> usize {
-        *self.of_size.iter().min().unwrap()
-    }
-
     /// Everything that must be met, with its name, how often it was and how often it must be.
     fn demands(&self) -> Vec<Demand> {
-        let named = [
-            ("runs", self.runs, FEWEST_RUNS),
-            ("runs of some number of rows", self.fewest_of_a_size(), FEWEST_OF_A_SIZE),
-            ("runs with several due jobs of several tasks", self.with_several, FEWEST_RUNS),
-            ("due jobs", self.due, FEWEST_DUE),
-            ("guest outputs", self.guest_outputs, FEWEST_GUEST_OUTPUTS),
-            ("hypertask outputs", self.hypertask_outputs, FEWEST_HYPERTASK_OUTPUTS),
-            ("refused ticks", self.refused, FEWEST_REFUSED),
-            ("open jobs", self.open, FEWEST_OPEN),
+        let mut demands = vec![
+            demand("runs", self.runs, FEWEST_RUNS),
+            demand("runs of some number of rows", self.of_rows.fewest(1..=32), FEWEST_OF_A_SIZE),
+            demand("runs with several due jobs of several tasks", self.with_several, FEWEST_RUNS),
+            demand("due jobs", self.due, FEWEST_DUE),
+            demand("guest outputs", self.guest_outputs, FEWEST_GUEST_OUTPUTS),
+            demand("hypertask outputs", self.hypertask_outputs, FEWEST_HYPERTASK_OUTPUTS),
+            demand("refused ticks", self.refused, FEWEST_REFUSED),
+            demand("open jobs", self.open, FEWEST_OPEN),
         ];
-        let kinds = KINDS.iter().zip(self.of_kind);
-        let kinds =
-            kinds.map(|(kind, count)| (format!("runs of the kind {kind:?}"), count, FEWEST_OF_A_KIND));
-        named.into_iter().map(|(name, met, fewest)| (name.to_string(), met, fewest)).chain(kinds).collect()
+        for kind in KINDS.map(name) {
+            demands.push(demand(format!("runs of the kind {kind}"), self.of_kind.of(kind), FEWEST_OF_A_KIND));
+        }
+        demands
     }
 
     /// Prints what is amiss, and answers whether nothing is.
     pub fn is_good(&self) -> bool {
-        let good = self.faulty == 0;
-        if self.faulty > 0 {
-            println!("FAILED: {} runs are faulty", self.faulty);
-        }
-        is_met(self.demands()) && good
+        is_good(&[(self.faulty, "runs are faulty")], self.demands())
     }
 }

@@ -1,23 +1,24 @@
 //! Compares the library's machine with the second program's, case by case: the answers of the
-//! start and of every tick, the whole machine after each call, and every place around them.
+//! start and of every tick, in a run and by itself, the whole machine after each call, and every
+//! place around them.
 //!
 //!     compare_machine [SEED]               the library
 //!     compare_machine --self-test [SEED]   machines with one fault each: every one must be noticed
 
-mod lent;
+#[path = "../library.rs"]
 mod library;
 mod outcome;
+mod steps;
 mod tally;
 
-use lent::Lent;
-use library::Library;
-use outcome::{outcome, Called, Outcome};
-use second::broken_machine::{self, SECOND};
+use outcome::{outcome, Called, Library, Outcome, Stepped};
 use second::command::compare_main;
-use second::machine::RULES;
-use second::machine_damages::DAMAGES;
-use second::machine_numbers::ticks;
-use second::machines::{hand_on, Begin, Case};
+use second::lent::{Lent, Pattern};
+use second::machine::broken::{BROKEN, SECOND};
+use second::machine::damages::DAMAGES;
+use second::machine::made_up::{hand_on, Begin, Case};
+use second::machine::numbers::{ticks, ANSWER, NUMBERS, RECORD};
+use second::machine::rules::RULES;
 use second::self_test::SelfTest;
 use std::process::ExitCode;
 use tally::Tally;
@@ -27,7 +28,7 @@ fn main() -> ExitCode {
 }
 
 fn compare_with_the_library(seed: u64) -> bool {
-    let mut tally = Tally::new();
+    let mut tally = Tally::default();
     let mut shown = false;
     hand_on(seed, &mut |case| {
         let expected = outcome(case, &SECOND);
@@ -55,9 +56,7 @@ fn show(case: &Case, expected: &Outcome, found: &Outcome) {
         println!("  second program: {:?}", expected.start);
         println!("  library:        {:?}", found.start);
     }
-    if found.table != expected.table {
-        println!("  the library changed the table to {:?}", found.table);
-    }
+    show_differences("the table", &expected.table, &found.table);
     show_differences("the machine before the first call", &expected.begin, &found.begin);
     let calls = expected.calls.iter().zip(&found.calls).enumerate();
     if let Some((number, (expected, found))) = calls.into_iter().find(|(_, (mine, others))| mine != others) {
@@ -67,11 +66,13 @@ fn show(case: &Case, expected: &Outcome, found: &Outcome) {
 }
 
 fn show_call(case: &Case, number: usize, expected: &Called, found: &Called) {
-    println!("  returned: second program {}, library {}", expected.returned, found.returned);
-    if found.records != expected.records {
-        println!("  the library changed the records");
+    if let (Some(expected), Some(found)) = (&expected.stepped, &found.stepped) {
+        show_step(case, number, expected, found);
     }
-    let answers = |called: &Called| called.answers.seen().chunks(12).map(<[u8]>::to_vec).collect::<Vec<_>>();
+    println!("  returned: second program {:?}, library {:?}", expected.returned, found.returned);
+    show_differences("the records", &expected.records, &found.records);
+    let answers =
+        |called: &Called| called.answers.part().chunks(ANSWER).map(<[u8]>::to_vec).collect::<Vec<_>>();
     let (mine, others) = (answers(expected), answers(found));
     if let Some(tick) = (0..mine.len()).find(|&tick| mine[tick] != others[tick]) {
         println!("  answer {tick}: second program {:?}, library {:?}", mine[tick], others[tick]);
@@ -82,18 +83,35 @@ fn show_call(case: &Case, number: usize, expected: &Called, found: &Called) {
     show_differences("the machine", &expected.state, &found.state);
 }
 
+fn show_step(case: &Case, number: usize, expected: &Stepped, found: &Stepped) {
+    if expected == found {
+        return;
+    }
+    println!("  stepped before it: second program {:?}, library {:?}", expected.returned, found.returned);
+    show_differences("the step's answer", &expected.answer, &found.answer);
+    show_differences("the machine stepped", &expected.state, &found.state);
+    show_before(case, number, 0);
+}
+
 /// The machine that the tick came to, and the tick.
 fn show_before(case: &Case, number: usize, tick: usize) {
     let begun = outcome(&Case { calls: vec![], begin: begin_of(case), ..*case }, &SECOND);
-    let mut state = begun.begin.seen().to_vec();
+    let mut state = begun.begin.part().to_vec();
+    let mut take = |records: &[u8], answers: usize| {
+        let _ = ticks(&RULES, &mut state, records, &mut vec![0; answers]);
+    };
     for call in &case.calls[..number] {
-        ticks(&RULES, &mut state, &call.records, &mut vec![0; call.answers]);
+        take(&call.records, call.answers);
     }
     let records = &case.calls[number].records;
-    ticks(&RULES, &mut state, &records[..8 * tick], &mut vec![0; 12 * tick]);
-    println!("  its record: {:?}", &records[8 * tick..8 * tick + 8]);
+    take(&records[..RECORD * tick], ANSWER * tick);
+    println!("  its record: {:?}", &records[RECORD * tick..RECORD * (tick + 1)]);
+    if state.len() < NUMBERS {
+        println!("  before it: {} numbers", state.len());
+        return;
+    }
     println!("  before it: count {}, clock {}", state[0], state[1]);
-    for (i, place) in state[2..].chunks(8).enumerate().filter(|(_, place)| **place != [0; 8]) {
+    for (i, place) in state[2..NUMBERS].chunks(8).enumerate().filter(|(_, place)| **place != [0; 8]) {
         println!("    {}: T D C K E {:?}, stage {}, {:?}", i + 1, &place[..5], place[5], &place[6..]);
     }
 }
@@ -105,19 +123,15 @@ fn begin_of(case: &Case) -> Begin {
     }
 }
 
-fn show_differences<T: Copy + PartialEq + std::fmt::Display>(
-    what: &str,
-    expected: &Lent<T>,
-    found: &Lent<T>,
-) {
-    for (place, expected, found) in expected.differences(found) {
-        println!("  {what}, place {place}: second program {expected}, library {found}");
+fn show_differences<T: Pattern>(what: &str, expected: &Lent<T>, found: &Lent<T>) {
+    for difference in expected.differences(found) {
+        println!("  {what}, {difference}");
     }
 }
 
 /// The same comparison with each broken machine in the library's place, until all are noticed.
 fn notice_the_broken(seed: u64) -> bool {
-    let mut test = SelfTest::new(broken_machine::MACHINE.to_vec());
+    let mut test = SelfTest::new(BROKEN.to_vec());
     hand_on(seed, &mut |case| {
         let expected = outcome(case, &SECOND);
         let sound_passes = expected == outcome(case, &SECOND);

@@ -1,24 +1,47 @@
 //! What can be seen of a machine that runs a case: every answer, and all lent memory after each
 //! call.
 
-use crate::lent::Lent;
+use crate::library;
 use second::answer::Answer;
-use second::broken_machine::Program;
-use second::machines::{Begin, Call, Case};
+use second::lent::Lent;
+use second::machine::broken::Program;
+use second::machine::made_up::{Begin, Call, Case, Step};
+use second::machine::state::Given;
 
 /// A program that starts machines and takes ticks: the library, or one like the second program.
 pub trait Runs {
-    fn start(&self, table: &[u32], state: &mut Lent<u64>) -> Answer;
-    fn ticks(&self, state: &mut Lent<u64>, records: &[u8], answers: &mut Lent<u8>) -> u64;
+    fn start(&self, table: &mut Lent<u32>, state: &mut Lent<u64>) -> Answer;
+    fn ticks(&self, state: &mut Lent<u64>, records: &mut Lent<u8>, answers: &mut Lent<u8>) -> Answer;
+    fn step(&self, state: &mut Lent<u64>, given: Given, answer: &mut Lent<u8>) -> Answer;
 }
 
 impl Runs for Program {
-    fn start(&self, table: &[u32], state: &mut Lent<u64>) -> Answer {
-        (self.start)(&self.rules, table, state.part())
+    fn start(&self, table: &mut Lent<u32>, state: &mut Lent<u64>) -> Answer {
+        (self.start)(&self.rules, table.part(), state.part_to_write())
     }
 
-    fn ticks(&self, state: &mut Lent<u64>, records: &[u8], answers: &mut Lent<u8>) -> u64 {
-        (self.ticks)(&self.rules, state.part(), records, answers.part())
+    fn ticks(&self, state: &mut Lent<u64>, records: &mut Lent<u8>, answers: &mut Lent<u8>) -> Answer {
+        (self.ticks)(&self.rules, state.part_to_write(), records.part(), answers.part_to_write())
+    }
+
+    fn step(&self, state: &mut Lent<u64>, given: Given, answer: &mut Lent<u8>) -> Answer {
+        (self.step)(&self.rules, state.part_to_write(), given, answer.part_to_write())
+    }
+}
+
+pub struct Library;
+
+impl Runs for Library {
+    fn start(&self, table: &mut Lent<u32>, state: &mut Lent<u64>) -> Answer {
+        library::start(table, state)
+    }
+
+    fn ticks(&self, state: &mut Lent<u64>, records: &mut Lent<u8>, answers: &mut Lent<u8>) -> Answer {
+        library::ticks(state, records, answers)
+    }
+
+    fn step(&self, state: &mut Lent<u64>, given: Given, answer: &mut Lent<u8>) -> Answer {
+        library::step(state, given, answer)
     }
 }
 
@@ -26,32 +49,40 @@ impl Runs for Program {
 pub struct Outcome {
     /// The answer to the start, for a case that begins with a table.
     pub start: Option<Answer>,
-    pub table: Vec<u32>,
+    pub table: Lent<u32>,
     /// The machine before the first call.
     pub begin: Lent<u64>,
     pub calls: Vec<Called>,
 }
 
-/// What one call has left behind.
+/// What one call has left behind, and the step before it.
 #[derive(PartialEq, Eq)]
 pub struct Called {
-    pub returned: u64,
+    pub stepped: Option<Stepped>,
+    pub returned: Answer,
     pub state: Lent<u64>,
-    pub records: Vec<u8>,
+    pub records: Lent<u8>,
     pub answers: Lent<u8>,
 }
 
+#[derive(PartialEq, Eq)]
+pub struct Stepped {
+    pub returned: Answer,
+    pub state: Lent<u64>,
+    pub answer: Lent<u8>,
+}
+
 pub fn outcome(case: &Case, runs: &impl Runs) -> Outcome {
-    let mut table = Vec::new();
+    let mut table = Lent::new(0);
     let mut start = None;
     let mut state = match &case.begin {
         Begin::Table(given, length) => {
-            table.clone_from(given);
-            let mut state = Lent::new(*length, no_number);
-            start = Some(runs.start(&table, &mut state));
+            table = Lent::holding(given);
+            let mut state = Lent::new(*length);
+            start = Some(runs.start(&mut table, &mut state));
             state
         }
-        Begin::Numbers(numbers) => Lent::holding(numbers, no_number),
+        Begin::Numbers(numbers) => Lent::holding(numbers),
     };
     let begin = state.clone();
     let calls = case.calls.iter().map(|call| called(call, runs, &mut state)).collect();
@@ -59,17 +90,15 @@ pub fn outcome(case: &Case, runs: &impl Runs) -> Outcome {
 }
 
 fn called(call: &Call, runs: &impl Runs, state: &mut Lent<u64>) -> Called {
-    let records = call.records.clone();
-    let mut answers = Lent::new(call.answers, no_byte);
-    let returned = runs.ticks(state, &records, &mut answers);
-    Called { returned, state: state.clone(), records, answers }
+    let stepped = call.step.map(|step| stepped(step, runs, state.clone()));
+    let mut records = Lent::holding(&call.records);
+    let mut answers = Lent::new(call.answers);
+    let returned = runs.ticks(state, &mut records, &mut answers);
+    Called { stepped, returned, state: state.clone(), records, answers }
 }
 
-/// Numbers that no machine has.
-fn no_number(place: usize) -> u64 {
-    0xA5C3_A5C3_0000_0000 ^ place as u64
-}
-
-fn no_byte(place: usize) -> u8 {
-    0xA5 ^ place as u8
+fn stepped(step: Step, runs: &impl Runs, mut state: Lent<u64>) -> Stepped {
+    let mut answer = Lent::new(step.answer);
+    let returned = runs.step(&mut state, step.given, &mut answer);
+    Stepped { returned, state, answer }
 }

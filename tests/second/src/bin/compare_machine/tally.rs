@@ -1,10 +1,14 @@
 //! What a run of the comparison has met, and whether that is enough.
 
-use crate::outcome::Outcome;
-use second::machine_damages::DAMAGES;
-use second::machines::{Begin, Case, KINDS};
-use second::met::{is_met, line, Demand};
-use second::scripts::Met;
+use crate::outcome::{Called, Outcome};
+use crate::steps::{self, Steps};
+use second::answer::refusal;
+use second::lent::Lent;
+use second::machine::damages::{DAMAGES, READABLE};
+use second::machine::made_up::{Begin, Call, Case, KINDS};
+use second::machine::numbers::{ANSWER, RECORD};
+use second::machine::scripts::Met;
+use second::met::{demand, is_good, kind_lines, line, name, Counts, Demand};
 
 /// A run that meets something less often than this shows too little about it.
 const FEWEST_OF_ANYTHING: usize = 200;
@@ -16,17 +20,16 @@ const FEWEST_TICKS: usize = 2_000_000;
 const WHO: [&str; 3] = ["nobody", "guest", "hypertask"];
 const MARKS: [&str; 3] = ["neither", "output", "budget used up"];
 /// The numbers that a start can be refused with.
-const OF_A_START: [usize; 7] = [1, 2, 3, 5, 6, 7, 18];
-const LARGEST_REFUSAL: usize = 18;
+const OF_A_START: [u32; 7] = [1, 2, 3, 5, 6, 7, 18];
 
 #[derive(Default)]
 pub struct Tally {
     machines: usize,
-    of_kind: [usize; KINDS.len()],
+    of_kind: Counts<String>,
     started: usize,
-    /// Starts that are accepted, by their number of rows from 1.
-    of_size: [usize; 32],
-    start_refused: [usize; LARGEST_REFUSAL + 1],
+    /// Starts that are accepted, by their number of rows.
+    of_rows: Counts<usize>,
+    start_refused: Counts<u32>,
     calls: usize,
     /// Calls that answer fewer ticks than there are records.
     cut_short: usize,
@@ -35,38 +38,30 @@ pub struct Tally {
     who: [usize; WHO.len()],
     marks: [usize; MARKS.len()],
     ignored: usize,
-    refused: [usize; LARGEST_REFUSAL + 1],
-    of_damage: Vec<usize>,
+    refused: Counts<u32>,
+    steps: Steps,
+    of_damage: Counts<usize>,
     /// Damaged machines that are not answered with 8 at place 0 and given back as they were.
     damage_unseen: usize,
-    met: Vec<(String, usize)>,
+    met: Counts<String>,
     different: usize,
 }
 
 impl Tally {
-    pub fn new() -> Tally {
-        Tally { of_damage: vec![0; DAMAGES.len()], met: Met::default().counts(), ..Tally::default() }
-    }
-
     /// Counts what the second program makes of the case.
     pub fn count(&mut self, case: &Case, expected: &Outcome, same: bool) {
         self.machines += 1;
-        self.of_kind[KINDS.iter().position(|(kind, _)| *kind == case.kind).unwrap()] += 1;
+        self.of_kind.meet(name(case.kind));
         self.different += usize::from(!same);
         self.count_start(expected);
         for (called, call) in expected.calls.iter().zip(&case.calls) {
-            self.calls += 1;
-            self.ticks += called.returned as usize;
-            self.cut_short += usize::from((called.returned as usize) < call.records.len().div_ceil(8));
-            for answer in called.answers.seen().chunks_exact(12).take(called.returned as usize) {
-                self.count_answer(answer);
-            }
+            self.count_call(case, call, called);
         }
-        for ((_, all), (_, more)) in self.met.iter_mut().zip(case.met.counts()) {
-            *all += more;
+        for (name, times) in case.met.counts() {
+            self.met.meet_times(name, times);
         }
         if let Some(damage) = case.damage {
-            self.of_damage[damage] += 1;
+            self.of_damage.meet(damage);
             self.damage_unseen += usize::from(!is_refused_with_8_throughout(case, expected));
         }
     }
@@ -75,17 +70,30 @@ impl Tally {
         match expected.start {
             Some(Ok(tasks)) => {
                 self.started += 1;
-                self.of_size[tasks as usize - 1] += 1;
+                self.of_rows.meet(tasks as usize);
             }
-            Some(Err(refusal)) => self.start_refused[refusal.number as usize] += 1,
+            Some(Err(refusal)) => self.start_refused.meet(refusal.number),
             None => {}
+        }
+    }
+
+    fn count_call(&mut self, case: &Case, call: &Call, called: &Called) {
+        let ticks = called.returned.unwrap_or(0) as usize;
+        self.calls += 1;
+        self.ticks += ticks;
+        self.cut_short += usize::from(ticks < call.records.len().div_ceil(RECORD));
+        for answer in called.answers.part().chunks_exact(ANSWER).take(ticks) {
+            self.count_answer(answer);
+        }
+        if let (Some(step), Some(stepped)) = (call.step, &called.stepped) {
+            self.steps.count(case, step, stepped);
         }
     }
 
     fn count_answer(&mut self, answer: &[u8]) {
         let [who, task_or_number, mark, ignored] = [8, 9, 10, 11].map(|place| usize::from(answer[place]));
         if who == 3 {
-            self.refused[task_or_number] += 1;
+            self.refused.meet(task_or_number as u32);
             return;
         }
         self.accepted += 1;
@@ -96,17 +104,11 @@ impl Tally {
 
     pub fn print(&self) {
         line("machines", self.machines);
-        for ((kind, _), count) in KINDS.iter().zip(self.of_kind) {
-            line(&format!("  {kind:?}"), count);
-        }
-        println!(
-            "{:<44}{:>9} (1 to 32 rows, at least {} of each)",
-            "started",
-            self.started,
-            self.fewest_of_a_size()
-        );
+        kind_lines(KINDS.map(|(kind, _)| kind), &self.of_kind);
+        line("started", self.started);
+        line("  of 1 to 32 rows, each at least", self.of_rows.fewest(1..=32));
         for number in OF_A_START {
-            line(&format!("  start refused with {number}"), self.start_refused[number]);
+            line(&format!("  start refused with {number}"), self.start_refused.of(number));
         }
         line("calls", self.calls);
         line("  with fewer answers than records", self.cut_short);
@@ -120,73 +122,83 @@ impl Tally {
         }
         line("  a signal ignored", self.ignored);
         for number in 8..=12 {
-            line(&format!("refusal {number}"), self.refused[number]);
+            line(&format!("refusal {number}"), self.refused.of(number));
         }
         println!("met in ticks");
-        for (name, count) in &self.met {
-            line(&format!("  {name}"), *count);
+        for (name, _) in Met::default().counts() {
+            line(&format!("  {name}"), self.met.of(name));
         }
         println!("damaged machines, each answered with 8 and given back unchanged");
-        for (damage, count) in DAMAGES.iter().zip(&self.of_damage) {
-            line(&format!("  {}", damage.name), *count);
+        for (i, damage) in DAMAGES.iter().enumerate() {
+            line(&format!("  {}", damage.name), self.of_damage.of(i));
+        }
+        println!("ticks given by themselves");
+        for (name, count, _) in self.steps.demands() {
+            line(&format!("  {name}"), count);
         }
         line("different", self.different);
-    }
-
-    fn fewest_of_a_size(&self) -> usize {
-        *self.of_size.iter().min().unwrap()
     }
 
     /// Everything that must be met, with its name, how often it was and how often it must be.
     fn demands(&self) -> Vec<Demand> {
         let mut demands = vec![
-            ("machines".to_string(), self.machines, FEWEST_MACHINES),
-            ("ticks".to_string(), self.ticks, FEWEST_TICKS),
-            ("machines of some number of rows".to_string(), self.fewest_of_a_size(), FEWEST_OF_A_SIZE),
-            ("calls with fewer answers than records".to_string(), self.cut_short, FEWEST_OF_ANYTHING),
-            ("ignored signals".to_string(), self.ignored, FEWEST_OF_AN_ANSWER),
+            demand("machines", self.machines, FEWEST_MACHINES),
+            demand("ticks", self.ticks, FEWEST_TICKS),
+            demand("machines of some number of rows", self.of_rows.fewest(1..=32), FEWEST_OF_A_SIZE),
+            demand("calls with fewer answers than records", self.cut_short, FEWEST_OF_ANYTHING),
+            demand("ignored signals", self.ignored, FEWEST_OF_AN_ANSWER),
         ];
         for number in OF_A_START {
             let name = format!("starts refused with {number}");
-            demands.push((name, self.start_refused[number], FEWEST_OF_ANYTHING));
+            demands.push(demand(name, self.start_refused.of(number), FEWEST_OF_ANYTHING));
         }
         for number in 8..=12 {
-            demands.push((format!("refusals {number}"), self.refused[number], FEWEST_OF_AN_ANSWER));
+            demands.push(demand(format!("refusals {number}"), self.refused.of(number), FEWEST_OF_AN_ANSWER));
         }
         for (who, count) in WHO.iter().zip(self.who) {
-            demands.push((format!("ticks in which {who} ran"), count, FEWEST_OF_AN_ANSWER));
+            demands.push(demand(format!("ticks in which {who} ran"), count, FEWEST_OF_AN_ANSWER));
         }
         for (mark, count) in MARKS.iter().zip(self.marks) {
-            demands.push((format!("marks: {mark}"), count, FEWEST_OF_AN_ANSWER));
+            demands.push(demand(format!("marks: {mark}"), count, FEWEST_OF_AN_ANSWER));
         }
-        for (name, count) in &self.met {
-            demands.push((name.clone(), *count, FEWEST_OF_ANYTHING));
+        for (name, _) in Met::default().counts() {
+            demands.push(demand(name.clone(), self.met.of(name), FEWEST_OF_ANYTHING));
         }
-        for (damage, count) in DAMAGES.iter().zip(&self.of_damage) {
-            demands.push((damage.name.to_string(), *count, FEWEST_OF_ANYTHING));
+        for (i, damage) in DAMAGES.iter().enumerate() {
+            demands.push(demand(damage.name, self.of_damage.of(i), FEWEST_OF_ANYTHING));
         }
+        demands.extend(self.steps.demands());
         demands
     }
 
     /// Prints what is amiss, and answers whether nothing is.
     pub fn is_good(&self) -> bool {
-        let good = self.different == 0 && self.damage_unseen == 0;
-        if self.different > 0 {
-            println!("FAILED: {} machines are different", self.different);
-        }
-        if self.damage_unseen > 0 {
-            println!("FAILED: {} damaged machines are not refused with 8 throughout", self.damage_unseen);
-        }
-        is_met(self.demands()) && good
+        let unseen = "damaged machines are not refused with 8 throughout";
+        is_good(&[(self.different, "machines are different"), (self.damage_unseen, unseen)], self.demands())
     }
 }
 
 fn is_refused_with_8_throughout(case: &Case, expected: &Outcome) -> bool {
-    let Begin::Numbers(numbers) = &case.begin else {
+    let (Begin::Numbers(numbers), Some(damage)) = (&case.begin, case.damage) else {
         return false;
     };
-    expected.calls.iter().all(|called| {
-        let mut answers = called.answers.seen().chunks_exact(12);
-        called.state.seen() == numbers && answers.all(|answer| answer[4..] == [0, 0, 0, 0, 3, 8, 0, 0])
+    let numbers = Lent::holding(numbers);
+    let readable = DAMAGES[damage].clause != READABLE;
+    expected.calls.iter().zip(&case.calls).all(|(called, call)| {
+        let said = if readable { says_8(called) } else { is_refused_with_8(call, called) };
+        let mut steps = called.stepped.iter().zip(call.step);
+        let stepped = steps.all(|(stepped, step)| steps::is_refused(case, step, stepped, &numbers));
+        said && stepped && called.state == numbers
     })
+}
+
+/// Every tick is answered with 8.
+fn says_8(called: &Called) -> bool {
+    let mut answers = called.answers.part().chunks_exact(ANSWER);
+    called.returned.is_ok() && answers.all(|answer| answer[4..] == [0, 0, 0, 0, 3, 8, 0, 0])
+}
+
+/// No tick is answered.
+fn is_refused_with_8(call: &Call, called: &Called) -> bool {
+    called.returned == Err(refusal(8, 0)) && called.answers == Lent::new(call.answers)
 }

@@ -1,12 +1,12 @@
 //! One case, looked at from every side: answers, places, parts, written bytes, everything lent
 //! and its guards, and the round trips.
 
-use crate::lent::{Lent, Pattern};
 use crate::program::Program;
 use second::answer::Answer;
-use second::broken_plan::Functions;
-use second::plan::{check, script_into, table_into, write};
-use second::plan_files::Case;
+use second::lent::{Lent, Pattern};
+use second::plan::broken::Functions;
+use second::plan::file::{check, script_into, table_into, write};
+use second::plan::made_up::Case;
 use std::fmt::{Debug, Display};
 
 /// The second program.
@@ -58,7 +58,7 @@ fn script_lengths(file: &mut Lent<u8>) -> Vec<usize> {
 type IntoLent<T> = fn(&dyn Program, &mut Lent<u8>, &mut Lent<T>) -> u64;
 
 /// One of the parts, with so much lent for it.
-fn compare_lent<T: Pattern + PartialEq + Display>(
+fn compare_lent<T: Pattern>(
     what: &str,
     length: usize,
     file: &mut Lent<u8>,
@@ -138,14 +138,10 @@ fn same<T: PartialEq + Debug>(what: &(impl Display + ?Sized), expected: &T, foun
 }
 
 /// Every place of lent memory is as it should be, its guards too.
-fn same_places<T: Pattern + PartialEq + Display>(
-    what: &str,
-    expected: &Lent<T>,
-    found: &Lent<T>,
-) -> Result<(), String> {
+fn same_places<T: Pattern>(what: &str, expected: &Lent<T>, found: &Lent<T>) -> Result<(), String> {
     if expected == found {
         return Ok(());
     }
-    let difference = expected.first_difference(found).unwrap_or_default();
+    let difference = expected.differences(found).next().unwrap_or_default();
     Err(format!("{what}: {difference}"))
 }

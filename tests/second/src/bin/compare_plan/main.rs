@@ -5,18 +5,17 @@
 //!     compare_plan --self-test [SEED]   programs with one fault each: every one must be noticed
 
 mod difference;
-mod lent;
+#[path = "../library.rs"]
 mod library;
 mod program;
 mod stray;
 mod tally;
 
 use difference::{compare, SECOND};
-use library::Library;
-use program::Program;
-use second::broken_plan;
+use program::{Library, Program};
 use second::command::compare_main;
-use second::plan_files::{hand_on, Case};
+use second::plan::broken::BROKEN;
+use second::plan::made_up::{hand_on, Case};
 use second::self_test::SelfTest;
 use std::process::ExitCode;
 use stray::STRAY;
@@ -66,7 +65,7 @@ fn show(case: &Case, difference: &str) {
 
 /// The programs with one fault each: broken in what they reckon, or in where they write.
 fn broken_programs() -> Vec<(&'static str, &'static dyn Program)> {
-    let broken = broken_plan::PLAN.iter().map(|(name, program)| (*name, program as &dyn Program));
+    let broken = BROKEN.iter().map(|(name, program)| (*name, program as &dyn Program));
     let stray = STRAY.iter().map(|(name, program)| (*name, program as &dyn Program));
     broken.chain(stray).collect()
 }

@@ -1,9 +1,10 @@
 //! What is compared: something that reads and writes plan files. Everything is lent between
 //! guards, what is only read as well.
 
-use crate::lent::Lent;
+use crate::library;
 use second::answer::Answer;
-use second::broken_plan::Functions;
+use second::lent::Lent;
+use second::plan::broken::Functions;
 
 pub trait Program {
     /// Accepted with 0, or refused.
@@ -32,5 +33,25 @@ impl Program for Functions {
 
     fn write(&self, table: &mut Lent<u32>, script: &mut Lent<u8>, output: &mut Lent<u8>) -> Answer {
         (self.write)(table.part(), script.part(), output.part_to_write())
+    }
+}
+
+pub struct Library;
+
+impl Program for Library {
+    fn check(&self, file: &mut Lent<u8>) -> Answer {
+        library::check(file)
+    }
+
+    fn table(&self, file: &mut Lent<u8>, table: &mut Lent<u32>) -> u64 {
+        library::table(file, table)
+    }
+
+    fn script(&self, file: &mut Lent<u8>, script: &mut Lent<u8>) -> u64 {
+        library::script(file, script)
+    }
+
+    fn write(&self, table: &mut Lent<u32>, script: &mut Lent<u8>, output: &mut Lent<u8>) -> Answer {
+        library::write(table, script, output)
     }
 }

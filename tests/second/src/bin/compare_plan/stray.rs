@@ -2,10 +2,9 @@
 //! writing, or leave a place unwritten. Safe code can't do that; a library through C can.
 
 use crate::difference::SECOND;
-use crate::lent::{Lent, Pattern};
-use crate::library;
 use crate::program::Program;
 use second::answer::Answer;
+use second::lent::{answered, Lent, Pattern};
 
 #[derive(Clone, Copy, PartialEq, Eq)]
 pub enum Stray {
@@ -39,23 +38,20 @@ pub const STRAY: [(&str, Stray); 12] = [
 ];
 
 impl Stray {
-    /// Writes a zero this far from the start of what is lent, if this is the stray one.
-    fn go<T: Pattern + Default>(self, which: Stray, lent: &mut Lent<T>, distance: isize) {
+    /// Changes the place this far from the start of what is lent, if this is the stray one.
+    fn go<T: Pattern>(self, which: Stray, lent: &mut Lent<T>, distance: isize) {
         if self == which {
-            let (start, _) = lent.pointer_and_length();
-            // SAFETY: one place before the part, in it or one past it; the guards reach further.
-            unsafe { *start.offset(distance) = T::default() };
+            lent.stray(distance);
         }
     }
 
-    fn past<T: Pattern + Default>(self, which: Stray, lent: &mut Lent<T>) {
-        let length = lent.part().len() as isize;
-        self.go(which, lent, length);
+    fn past<T: Pattern>(self, which: Stray, lent: &mut Lent<T>) {
+        self.go(which, lent, lent.part().len() as isize);
     }
 
     /// The sound answer's number, and its place unless that is left unwritten.
     fn answer(self, sound: Answer) -> Answer {
-        library::answer(|place| {
+        answered(|place| {
             let (number, given) = match sound {
                 Ok(given) => (0, given),
                 Err(refusal) => (refusal.number, refusal.place),

@@ -1,9 +1,9 @@
 //! What a run of the comparison has met, and whether that is enough.
 
 use second::answer::{Answer, Refusal};
-use second::plan;
-use second::plan_files::{Case, Kind, KINDS};
-use std::collections::BTreeMap;
+use second::met::{demand, is_good, kind_lines, line, name, Counts, Demand};
+use second::plan::file::{rows, script};
+use second::plan::made_up::{Case, Kind, KINDS};
 use std::ops::RangeInclusive;
 
 const FEWEST_FILES: usize = 1_000_000;
@@ -41,8 +41,6 @@ const TOTALS: [usize; 4] = [65_532, 65_536, 65_537, 65_540];
 /// Totals of what the writer is to write that have to be met.
 const WRITER_TOTALS: [usize; 2] = [65_532, 65_540];
 
-type Counts<Key> = BTreeMap<Key, usize>;
-
 #[derive(Default)]
 pub struct Tally {
     files: usize,
@@ -74,15 +72,15 @@ impl Tally {
 
     fn count_file(&mut self, kind: Kind, file: &[u8], answer: &Answer) {
         self.files += 1;
-        meet(&mut self.of_kind, name(kind));
-        meet(&mut self.of_total, file.len());
+        self.of_kind.meet(name(kind));
+        self.of_total.meet(file.len());
         match answer {
             Ok(_) => {
                 self.accepted += 1;
-                meet(&mut self.of_rows, plan::rows(file).len() / 16);
-                meet(&mut self.of_records, plan::script(file).len() / 8);
+                self.of_rows.meet(rows(file).len() / 16);
+                self.of_records.meet(script(file).len() / 8);
             }
-            Err(Refusal { number, place }) => meet(&mut self.refused, (*number, *place)),
+            Err(Refusal { number, place }) => self.refused.meet((*number, *place)),
         }
     }
 
@@ -91,37 +89,32 @@ impl Tally {
         match answer {
             Ok(total) => {
                 self.written += 1;
-                meet(&mut self.to_write, *total as usize);
+                self.to_write.meet(*total as usize);
             }
             Err(Refusal { number, place }) => {
-                meet(&mut self.not_written, *number);
+                self.not_written.meet(*number);
                 if *number == 13 {
-                    meet(&mut self.to_write, *place as usize);
+                    self.to_write.meet(*place as usize);
                 }
             }
         }
     }
 
     fn refused_at(&self, number: u32, places: &RangeInclusive<u64>) -> usize {
-        self.refused.range((number, *places.start())..=(number, *places.end())).map(|(_, count)| count).sum()
-    }
-
-    fn fewest_of_rows(&self) -> usize {
-        (1..=32).map(|rows| met(&self.of_rows, &rows)).min().unwrap()
+        self.refused.within((number, *places.start())..=(number, *places.end()))
     }
 
     pub fn print(&self) {
         line("files", self.files);
-        for (kind, _) in KINDS.iter().filter(|(kind, _)| *kind != Kind::Writing) {
-            line(&format!("  {}", name(*kind)), met(&self.of_kind, &name(*kind)));
-        }
+        let kinds = KINDS.into_iter().map(|(kind, _)| kind);
+        kind_lines(kinds.filter(|kind| *kind != Kind::Writing), &self.of_kind);
         for total in TOTALS {
-            line(&format!("  of {total} bytes"), met(&self.of_total, &total));
+            line(&format!("  of {total} bytes"), self.of_total.of(total));
         }
         line("accepted", self.accepted);
-        line("  of 1 to 32 rows, each at least", self.fewest_of_rows());
+        line("  of 1 to 32 rows, each at least", self.of_rows.fewest(1..=32));
         for (records, _) in SCRIPTS {
-            line(&format!("  with {records} records"), met(&self.of_records, &records));
+            line(&format!("  with {records} records"), self.of_records.of(records));
         }
         for (at, number, places) in REFUSALS {
             line(&format!("refusal {number}, {at}"), self.refused_at(number, &places));
@@ -129,63 +122,50 @@ impl Tally {
         line("writer's inputs", self.inputs);
         line("  written", self.written);
         for number in WRITER_REFUSALS {
-            line(&format!("  refusal {number}"), met(&self.not_written, &number));
+            line(&format!("  refusal {number}"), self.not_written.of(number));
         }
         for total in WRITER_TOTALS {
-            line(&format!("  of {total} bytes"), met(&self.to_write, &total));
+            line(&format!("  of {total} bytes"), self.to_write.of(total));
         }
         line("different", self.different);
     }
 
-    /// Prints what is amiss, and answers whether nothing is.
-    pub fn is_good(&self) -> bool {
-        let mut good = true;
-        let mut demand = |count: usize, fewest: usize, what: &str| {
-            if count < fewest {
-                println!("FAILED: {what}: {count}, fewer than {fewest}");
-                good = false;
-            }
-        };
-        demand(self.files, FEWEST_FILES, "files");
-        demand(self.inputs, FEWEST_INPUTS, "writer's inputs");
-        demand(self.fewest_of_rows(), FEWEST_OF_A_SIZE, "accepted with some number of rows");
+    /// Everything that must be met, with its name, how often it was and how often it must be.
+    fn demands(&self) -> Vec<Demand> {
+        let mut demands = vec![
+            demand("files", self.files, FEWEST_FILES),
+            demand("writer's inputs", self.inputs, FEWEST_INPUTS),
+            demand("accepted with some number of rows", self.of_rows.fewest(1..=32), FEWEST_OF_A_SIZE),
+            demand("written", self.written, FEWEST_OF_AN_ANSWER),
+        ];
         for (records, fewest) in SCRIPTS {
-            demand(met(&self.of_records, &records), fewest, &format!("accepted with {records} records"));
+            let name = format!("accepted with {records} records");
+            demands.push(demand(name, self.of_records.of(records), fewest));
         }
         for total in TOTALS {
-            demand(met(&self.of_total, &total), FEWEST_OF_A_SIZE, &format!("files of {total} bytes"));
+            demands.push(demand(
+                format!("files of {total} bytes"),
+                self.of_total.of(total),
+                FEWEST_OF_A_SIZE,
+            ));
         }
         for (at, number, places) in REFUSALS {
             let count = self.refused_at(number, &places);
-            demand(count, FEWEST_OF_AN_ANSWER, &format!("refusal {number}, {at}"));
+            demands.push(demand(format!("refusal {number}, {at}"), count, FEWEST_OF_AN_ANSWER));
         }
-        demand(self.written, FEWEST_OF_AN_ANSWER, "written");
         for number in WRITER_REFUSALS {
-            let count = met(&self.not_written, &number);
-            demand(count, FEWEST_OF_AN_ANSWER, &format!("the writer's refusal {number}"));
+            let name = format!("the writer's refusal {number}");
+            demands.push(demand(name, self.not_written.of(number), FEWEST_OF_AN_ANSWER));
         }
         for total in WRITER_TOTALS {
-            demand(met(&self.to_write, &total), FEWEST_OF_A_SIZE, &format!("{total} bytes to write"));
+            let name = format!("{total} bytes to write");
+            demands.push(demand(name, self.to_write.of(total), FEWEST_OF_A_SIZE));
         }
-        if self.different > 0 {
-            println!("FAILED: {} cases are different", self.different);
-        }
-        good && self.different == 0
+        demands
     }
-}
 
-fn meet<Key: Ord>(counts: &mut Counts<Key>, key: Key) {
-    *counts.entry(key).or_default() += 1;
-}
-
-fn met<Key: Ord>(counts: &Counts<Key>, key: &Key) -> usize {
-    counts.get(key).copied().unwrap_or(0)
-}
-
-fn line(what: &str, count: usize) {
-    println!("{what:<34}{count}");
-}
-
-fn name(kind: Kind) -> String {
-    format!("{kind:?}").to_lowercase()
+    /// Prints what is amiss, and answers whether nothing is.
+    pub fn is_good(&self) -> bool {
+        is_good(&[(self.different, "cases are different")], self.demands())
+    }
 }

@@ -1,8 +1,8 @@
 //! One plan, looked at from every side: the length of its text, the bytes, everything lent with
 //! its guards, with room that is exact, too little by one, ample or none.
 
-use crate::lent::Lent;
 use crate::program::Program;
+use second::lent::Lent;
 
 /// More than any text is long, so that a length that is none takes no memory.
 const LONGEST_TEXT: usize = 1 << 21;
@@ -25,10 +25,10 @@ pub fn compare(program: &dyn Program, file: &[u8], expected: &[u8]) -> Result<()
         }
         let length = program.report(&mut file, &mut others);
         if length != expected.len() as u64 || mine != others {
-            let words = words(room, expected.len(), length, mine.first_difference(&others));
+            let words = words(room, expected.len(), length, mine.differences(&others).next());
             return Err(with_the_line(program, &mut file, expected, words));
         }
-        if let Some(place) = before.first_difference(&file) {
+        if let Some(place) = before.differences(&file).next() {
             return Err(Difference { words: format!("the file is changed: {place}"), line: None });
         }
     }

@@ -5,8 +5,7 @@
 //!     compare_text --self-test [SEED]   programs with one fault each: every one must be noticed
 
 mod difference;
-#[path = "../compare_plan/lent.rs"]
-mod lent;
+#[path = "../library.rs"]
 mod library;
 mod program;
 mod show;
@@ -14,13 +13,12 @@ mod stray;
 mod tally;
 
 use difference::{compare, Difference};
-use library::Library;
-use program::Program;
-use second::broken_text::{self, Text};
+use program::{Library, Program};
 use second::command::compare_main;
 use second::self_test::SelfTest;
-use second::text::text;
-use second::text_plans::{hand_on, Case};
+use second::text::broken::{Text, BROKEN};
+use second::text::made_up::{hand_on, Case};
+use second::text::run::text;
 use show::show;
 use std::process::ExitCode;
 use stray::STRAY;
@@ -55,7 +53,7 @@ const SECOND: Text = text;
 
 /// The programs with one fault each: in the text itself, or in what is said and written of it.
 fn broken_programs() -> Vec<(&'static str, &'static dyn Program)> {
-    let broken = broken_text::TEXT.iter().map(|(name, program)| (*name, program as &dyn Program));
+    let broken = BROKEN.iter().map(|(name, program)| (*name, program as &dyn Program));
     let stray = STRAY.iter().map(|(name, program)| (*name, program as &dyn Program));
     broken.chain(stray).collect()
 }

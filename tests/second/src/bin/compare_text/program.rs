@@ -1,8 +1,9 @@
 //! What is compared: something that gives the text of a plan. Everything is lent between guards,
 //! what is only read as well.
 
-use crate::lent::Lent;
-use second::broken_text::Text;
+use crate::library;
+use second::lent::Lent;
+use second::text::broken::Text;
 
 pub trait Program {
     /// The length of the whole text, which is written to the front where it fits.
@@ -13,6 +14,14 @@ pub trait Program {
 impl Program for Text {
     fn report(&self, file: &mut Lent<u8>, text: &mut Lent<u8>) -> u64 {
         into_lent(&self(file.part()), text.part_to_write())
+    }
+}
+
+pub struct Library;
+
+impl Program for Library {
+    fn report(&self, file: &mut Lent<u8>, text: &mut Lent<u8>) -> u64 {
+        library::report(file, text)
     }
 }
 

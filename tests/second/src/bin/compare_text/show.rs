@@ -1,7 +1,7 @@
 //! A plan for people: in the text form of tools/plan where the file can be read, as bytes where
 //! it can't.
 
-use second::plan::{check, rows, script};
+use second::plan::file::{check, rows, script};
 
 const MOST_BYTES: usize = 1_024;
 

@@ -1,9 +1,9 @@
 //! Programs that reckon as the second program does, but say or write something else: where
 //! nothing was lent, where there is too little room, or a length that isn't the text's.
 
-use crate::lent::Lent;
 use crate::program::{into_lent, Program};
-use second::text::text;
+use second::lent::Lent;
+use second::text::run::text;
 
 #[derive(Clone, Copy, PartialEq, Eq)]
 pub enum Stray {
@@ -37,7 +37,7 @@ pub const STRAY: [(&str, Stray); 11] = [
 impl Program for Stray {
     fn report(&self, file: &mut Lent<u8>, lent: &mut Lent<u8>) -> u64 {
         let text = text(file.part());
-        let (file_length, room) = (file.part().len(), lent.part().len());
+        let room = lent.part().len();
         let fits = room >= text.len();
         let length = text.len() as u64;
         match self {
@@ -46,13 +46,13 @@ impl Program for Stray {
             _ => into_lent(&text, lent.part_to_write()),
         };
         match self {
-            Stray::PastText if fits => go(lent, text.len()),
-            Stray::PastLent => go(lent, room),
-            Stray::BeforeText => go(lent, usize::MAX),
-            Stray::IntoFile => go(file, 0),
-            Stray::PastFile => go(file, file_length),
+            Stray::PastText if fits => lent.stray(text.len() as isize),
+            Stray::PastLent => lent.stray_past(),
+            Stray::BeforeText => lent.stray(-1),
+            Stray::IntoFile => file.stray(0),
+            Stray::PastFile => file.stray_past(),
             Stray::AsMuchAsFits if !fits => lent.part_to_write().copy_from_slice(&text[..room]),
-            Stray::FirstByteWhereShort if !fits => go(lent, 0),
+            Stray::FirstByteWhereShort if !fits => lent.stray(0),
             _ => {}
         }
         match self {
@@ -61,11 +61,4 @@ impl Program for Stray {
             _ => length,
         }
     }
-}
-
-/// Changes the byte this far from the start of what is lent; the largest distance is one before.
-fn go(lent: &mut Lent<u8>, distance: usize) {
-    let byte = lent.pointer_and_length().0.wrapping_add(distance);
-    // SAFETY: one place before the part, in it or one past it; the guards reach further.
-    unsafe { *byte = (*byte).wrapping_add(1) };
 }

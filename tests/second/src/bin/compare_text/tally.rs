@@ -1,10 +1,9 @@
 //! What a run of the comparison has met, told from the second program's texts, and whether that
 //! is enough.
 
-use second::met::{is_met, Demand};
-use second::plan;
-use second::text_plans::{Case, Kind, KINDS};
-use std::collections::BTreeMap;
+use second::met::{demand, is_good, kind_lines, line, name, Counts, Demand};
+use second::plan::file::script;
+use second::text::made_up::{Case, KINDS};
 
 const FEWEST_PLANS: usize = 20_000;
 const FEWEST_TICKS: usize = 1_000_000;
@@ -23,8 +22,6 @@ const REFUSALS: [u32; 10] = [2, 3, 5, 6, 7, 13, 14, 15, 16, 17];
 const REFUSED_TICKS: [u32; 2] = [10, 11];
 const WHO: [char; 3] = ['I', 'G', 'H'];
 const MARKS: [&str; 3] = ["-", "O", "S"];
-
-type Counts<Key> = BTreeMap<Key, usize>;
 
 #[derive(Default)]
 pub struct Tally {
@@ -54,7 +51,7 @@ impl Tally {
     pub fn count(&mut self, case: &Case, text: &[u8], same: bool) {
         self.same += usize::from(same);
         self.different += usize::from(!same);
-        meet(&mut self.of_kind, name(case.kind));
+        self.of_kind.meet(name(case.kind));
         self.too_long += usize::from(case.file.len() > 65_536);
         self.longest_text = self.longest_text.max(text.len());
         for line in std::str::from_utf8(text).unwrap().lines() {
@@ -65,12 +62,12 @@ impl Tally {
     fn count_line(&mut self, case: &Case, words: &[&str]) {
         match words {
             ["ACCEPT", tasks] => self.count_accepted(case, tasks.parse().unwrap()),
-            ["REFUSE", number, _] => meet(&mut self.refused, number.parse().unwrap()),
-            [_, "REFUSE", number, _] => meet(&mut self.refused_ticks, number.parse().unwrap()),
+            ["REFUSE", number, _] => self.refused.meet(number.parse().unwrap()),
+            [_, "REFUSE", number, _] => self.refused_ticks.meet(number.parse().unwrap()),
             [_, who, mark, ignored] => {
                 self.ticks += 1;
-                meet(&mut self.who, who.chars().next().unwrap());
-                meet(&mut self.marks, mark.to_string());
+                self.who.meet(who.chars().next().unwrap());
+                self.marks.meet(mark.to_string());
                 self.ignored += usize::from(*ignored == "1");
             }
             ["TASK", _, arrived, _, _, open] => {
@@ -83,39 +80,33 @@ impl Tally {
 
     fn count_accepted(&mut self, case: &Case, tasks: usize) {
         self.accepted += 1;
-        meet(&mut self.of_rows, tasks);
-        let records = plan::script(&case.file).len() / 8;
+        self.of_rows.meet(tasks);
+        let records = script(&case.file).len() / 8;
         self.without_script += usize::from(records == 0);
         self.with_8_000_records += usize::from(records >= 8_000);
     }
 
-    fn fewest_of_rows(&self) -> usize {
-        (1..=32).map(|rows| met(&self.of_rows, &rows)).min().unwrap()
-    }
-
     pub fn print(&self) {
         line("plans", self.same + self.different);
-        for (kind, _) in KINDS {
-            line(&format!("  {}", name(kind)), met(&self.of_kind, &name(kind)));
-        }
+        kind_lines(KINDS.map(|(kind, _)| kind), &self.of_kind);
         line("accepted", self.accepted);
-        line("  of 1 to 32 rows, each at least", self.fewest_of_rows());
+        line("  of 1 to 32 rows, each at least", self.of_rows.fewest(1..=32));
         line("  without a script", self.without_script);
         line("  with 8,000 records or more", self.with_8_000_records);
         for number in REFUSALS {
-            line(&format!("refused with {number}"), met(&self.refused, &number));
+            line(&format!("refused with {number}"), self.refused.of(number));
         }
         line("longer than 65,536 bytes", self.too_long);
         line("ticks", self.ticks);
         for who in WHO {
-            line(&format!("  {who} ran"), met(&self.who, &who));
+            line(&format!("  {who} ran"), self.who.of(who));
         }
         for mark in MARKS {
-            line(&format!("  mark {mark}"), met(&self.marks, &mark.to_string()));
+            line(&format!("  mark {mark}"), self.marks.of(mark.to_string()));
         }
         line("  a signal ignored", self.ignored);
         for number in REFUSED_TICKS {
-            line(&format!("ticks refused with {number}"), met(&self.refused_ticks, &number));
+            line(&format!("ticks refused with {number}"), self.refused_ticks.of(number));
         }
         line("tasks with an open job", self.open);
         line("tasks with 1,000 jobs or more", self.large_totals);
@@ -127,59 +118,36 @@ impl Tally {
     /// Everything that must be met, with its name, how often it was and how often it must be.
     fn demands(&self) -> Vec<Demand> {
         let mut demands = vec![
-            ("plans the same".to_string(), self.same, FEWEST_PLANS),
-            ("ticks".to_string(), self.ticks, FEWEST_TICKS),
-            ("accepted with some number of rows".to_string(), self.fewest_of_rows(), FEWEST_OF_A_SIZE),
-            ("accepted without a script".to_string(), self.without_script, FEWEST_OF_A_SIZE),
-            ("accepted with 8,000 records or more".to_string(), self.with_8_000_records, FEWEST_LONG),
-            ("longer than 65,536 bytes".to_string(), self.too_long, FEWEST_OF_A_REFUSAL),
-            ("ignored signals".to_string(), self.ignored, FEWEST_OF_A_WORD),
-            ("tasks with an open job".to_string(), self.open, FEWEST_OF_A_WORD),
-            ("tasks with 1,000 jobs or more".to_string(), self.large_totals, FEWEST_LONG / 5),
+            demand("plans the same", self.same, FEWEST_PLANS),
+            demand("ticks", self.ticks, FEWEST_TICKS),
+            demand("accepted with some number of rows", self.of_rows.fewest(1..=32), FEWEST_OF_A_SIZE),
+            demand("accepted without a script", self.without_script, FEWEST_OF_A_SIZE),
+            demand("accepted with 8,000 records or more", self.with_8_000_records, FEWEST_LONG),
+            demand("longer than 65,536 bytes", self.too_long, FEWEST_OF_A_REFUSAL),
+            demand("ignored signals", self.ignored, FEWEST_OF_A_WORD),
+            demand("tasks with an open job", self.open, FEWEST_OF_A_WORD),
+            demand("tasks with 1,000 jobs or more", self.large_totals, FEWEST_LONG / 5),
         ];
         for number in REFUSALS {
-            demands.push((
-                format!("refused with {number}"),
-                met(&self.refused, &number),
-                FEWEST_OF_A_REFUSAL,
-            ));
+            let name = format!("refused with {number}");
+            demands.push(demand(name, self.refused.of(number), FEWEST_OF_A_REFUSAL));
         }
         for number in REFUSED_TICKS {
             let name = format!("ticks refused with {number}");
-            demands.push((name, met(&self.refused_ticks, &number), FEWEST_OF_A_WORD));
+            demands.push(demand(name, self.refused_ticks.of(number), FEWEST_OF_A_WORD));
         }
         for who in WHO {
-            demands.push((format!("ticks of {who}"), met(&self.who, &who), FEWEST_OF_A_WORD));
+            demands.push(demand(format!("ticks of {who}"), self.who.of(who), FEWEST_OF_A_WORD));
         }
         for mark in MARKS {
-            let count = met(&self.marks, &mark.to_string());
-            demands.push((format!("marks {mark}"), count, FEWEST_OF_A_WORD));
+            let count = self.marks.of(mark.to_string());
+            demands.push(demand(format!("marks {mark}"), count, FEWEST_OF_A_WORD));
         }
         demands
     }
 
     /// Prints what is amiss, and answers whether nothing is.
     pub fn is_good(&self) -> bool {
-        let good = self.different == 0;
-        if self.different > 0 {
-            println!("FAILED: {} plans are different", self.different);
-        }
-        is_met(self.demands()) && good
+        is_good(&[(self.different, "plans are different")], self.demands())
     }
-}
-
-fn meet<Key: Ord>(counts: &mut Counts<Key>, key: Key) {
-    *counts.entry(key).or_default() += 1;
-}
-
-fn met<Key: Ord>(counts: &Counts<Key>, key: &Key) -> usize {
-    counts.get(key).copied().unwrap_or(0)
-}
-
-fn line(what: &str, count: usize) {
-    println!("{what:<34}{count:>9}");
-}
-
-fn name(kind: Kind) -> String {
-    format!("{kind:?}").to_lowercase()
 }

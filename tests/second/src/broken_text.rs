@@ -1,8 +1,0 @@
-//! Texts with one fault each, made by build.rs from src/text.rs and edits_text.rs. The comparison
-//! runs against them to show that it notices such faults.
-
-#![allow(warnings, clippy::all)]
-
-pub type Text = fn(&[u8]) -> Vec<u8>;
-
-include!(concat!(env!("OUT_DIR"), "/broken_text.rs"));
