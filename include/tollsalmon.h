@@ -33,7 +33,7 @@ extern "C" {
 #define TOLLSALMON_ANSWER 12    /* bytes of an answer */
 #define TOLLSALMON_FILE 65536   /* the most bytes of a plan file */
 #define TOLLSALMON_TEXT 655360  /* the most bytes of a run's text */
-#define TOLLSALMON_STACK 65536  /* bytes of stack */
+#define TOLLSALMON_STACK 32768  /* bytes of stack; tests/c/stack.c measures less than half of it */
 
 /* A machine, as TOLLSALMON_STATE numbers: how many rows, the clock, then TOLLSALMON_PLACE numbers for each of TOLLSALMON_TASKS places.
    A number that the stage has no use for is 0. */

@@ -32,6 +32,11 @@
 
 #![deny(missing_docs, unsafe_code)]
 
+/// The repository's README, whose example in Rust is tried with the others.
+#[cfg(doctest)]
+#[doc = include_str!("../../README.md")]
+struct Readme;
+
 mod answer;
 #[allow(unsafe_code)]
 mod library;
