@@ -1,18 +1,11 @@
 //! The plain Rust machine behind the same calls as the library's: a machine as 258 numbers, tick
 //! records and answers as bytes. Each call is there twice, by how the step is inlined.
 
-use crate::machine::numbers::{read, write, ANSWER, NUMBERS, RECORD};
-use crate::machine::state::Machine;
-use crate::machine::Stepped;
+use crate::answer::{refusal, Answer};
+use crate::machine::numbers::{read, write, Numbers, ANSWER, RECORD};
+use crate::machine::state::{Given, Machine};
+use crate::machine::{Stepped, Who};
 use std::hint::black_box;
-
-pub type Numbers = [u64; NUMBERS];
-
-pub fn numbers(machine: &Machine) -> Numbers {
-    let mut numbers = [0; NUMBERS];
-    write(machine, &mut numbers);
-    numbers
-}
 
 /// The same tick that many times, with a running sum of the answers; the numbers are only read.
 #[inline(always)]
@@ -80,4 +73,27 @@ pub fn run_called(state: &mut Numbers, records: &[u8], answers: &mut [u8]) -> u6
 #[inline(never)]
 pub fn run_inlined(state: &mut Numbers, records: &[u8], answers: &mut [u8]) -> u64 {
     run(state, records, answers, |machine, mask, signal, early| machine.step_inlined(mask, signal, early))
+}
+
+/// One tick; a refused one touches nothing.
+#[inline(never)]
+pub fn step(state: &mut Numbers, given: Given, answer: &mut [u8]) -> Answer {
+    if given.early > 1 {
+        return Err(refusal(17, 0));
+    }
+    if answer.len() < ANSWER {
+        return Err(refusal(18, ANSWER));
+    }
+    let Some(machine) = read(state) else {
+        return Err(refusal(8, 0));
+    };
+    let clock = machine.clock;
+    let stepped = machine.step_inlined(given.mask, given.signal, given.early == 1);
+    let said = stepped.answer;
+    if said.who == Who::Refused {
+        return Err(refusal(said.task_or_number.into(), said.place as usize));
+    }
+    answer[..ANSWER].copy_from_slice(&said.bytes(clock));
+    write(&stepped.machine, state);
+    Ok(0)
 }

@@ -3,9 +3,11 @@
 pub mod analysis;
 pub mod calls;
 pub mod clock;
+pub mod library;
 pub mod machine;
 pub mod planner_tables;
 pub mod rounds;
+pub mod scenarios;
 pub mod text;
 
 #[path = "../../tests/second/src/answer.rs"]

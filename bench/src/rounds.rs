@@ -1,4 +1,4 @@
-//! Two programs measured in turn, so that what slows the machine down slows both.
+//! Programs measured in turn, so that what slows the machine down slows all of them.
 
 use crate::clock::time_of;
 use std::time::Duration;
@@ -16,21 +16,24 @@ impl Times {
     }
 }
 
-/// One round for both to warm up, then `rounds` that count; who begins changes each time.
-pub fn alternate(rounds: usize, mut first: impl FnMut(), mut second: impl FnMut()) -> (Times, Times) {
-    first();
-    second();
-    let (mut firsts, mut seconds) = (Vec::new(), Vec::new());
-    for round in 0..rounds {
-        if round % 2 == 0 {
-            firsts.push(time_of(&mut first));
-            seconds.push(time_of(&mut second));
-        } else {
-            seconds.push(time_of(&mut second));
-            firsts.push(time_of(&mut first));
-        }
+/// One round for each to warm up, then `rounds` that count; who begins changes each time.
+pub fn in_turn<const N: usize>(rounds: usize, programs: [&mut dyn FnMut(); N]) -> [Times; N] {
+    let programs = programs.map(|program| {
+        program();
+        program
+    });
+    let mut times = [const { Vec::new() }; N];
+    for turn in 0..rounds * N {
+        let i = (turn / N + turn % N) % N;
+        times[i].push(time_of(&mut *programs[i]));
     }
-    firsts.sort_unstable();
-    seconds.sort_unstable();
-    (Times(firsts), Times(seconds))
+    times.map(|mut times| {
+        times.sort_unstable();
+        Times(times)
+    })
+}
+
+pub fn alternate(rounds: usize, mut first: impl FnMut(), mut second: impl FnMut()) -> (Times, Times) {
+    let [first, second] = in_turn(rounds, [&mut first, &mut second]);
+    (first, second)
 }

@@ -400,7 +400,8 @@ const OF_NUMBERS: &[Edit] = &[
         "let mut machine = Machine { count: state[0], clock: state[1], ..WITHOUT_ROWS };",
         "let mut machine = Machine { count: state[0], clock: state[1], ..WITHOUT_ROWS };\n    \
          let mut cleared = state.to_vec();\n    \
-         for place in cleared[2..NUMBERS].chunks_exact_mut(IN_A_PLACE).skip(state[0].min(32) as usize) {\n        \
+         let last = 2 + IN_A_PLACE * state[0].min(32) as usize;\n    \
+         for place in cleared[last..NUMBERS].chunks_exact_mut(IN_A_PLACE) {\n        \
              if place[5] == 0 { place[6] = 0; }\n        \
              if [0, 3].contains(&place[5]) { place[7] = 0; }\n    \
          }\n    \
@@ -435,7 +436,8 @@ const OF_NUMBERS: &[Edit] = &[
     edit(
         "18 before 17",
         "if given.early > 1 {",
-        "if answer.len() < ANSWER {\n        return Err(refusal(18, ANSWER));\n    }\n    if given.early > 1 {",
+        "if answer.len() < ANSWER {\n        return Err(refusal(18, ANSWER));\n    }\n    \
+         if given.early > 1 {",
     ),
     edit(
         "8 before 18",
