@@ -91,7 +91,7 @@ build_program() {
   local what="the run program"
   ! built run target/bin/run || return 0
   need_kit
-  [[ -x target/bin/run && ! -e target/built/run ]] || say "proving and building $what; the first time takes some minutes"
+  [[ -x target/bin/run && -e target/stamp/run && ! -e target/built/run ]] || say "proving and building $what; the first time takes some minutes"
   begin_mark run
   prove "$what" "$(crates_for run)" run
   end_mark run
