@@ -161,11 +161,11 @@ no_such_file() {
 
 links() {
   local new=$'new\nline'
-  mkdir "$room/bin" "$room/work"
+  mkdir "$room/bin" "$room/away"
   ln -s "$at/tollsalmon" "$room/bin/tollsalmon"
   ln -s tollsalmon "$room/bin/again"
-  ln -s ../bin/again "$room/work/far"
-  cd "$room/work" || exit
+  ln -s ../bin/again "$room/away/far"
+  cd "$room/away" || exit
   cp "$example.plan" mine.plan
   try "$room/bin/tollsalmon" run mine.plan
   expect "a link" 0 "$example.out"
@@ -432,7 +432,7 @@ through_pkg_config() {
 }
 
 installs() {
-  local prefix="$room/a prefix" below=$room/package/opt/tollsalmon
+  local prefix="$room/a prefix" below=$room/package$room/real
   cd "$room" || exit
   try bash -c 'umask 077 && exec "$@"' - "$at/tollsalmon" install "a prefix"
   expect "install into a path with spaces, from where the caller stands" 0 $nothing "installed '$prefix/lib/libtollsalmon.a'"
@@ -442,9 +442,9 @@ installs() {
   expect "it runs" 0 "$at/examples/first.out"
   try env PKG_CONFIG_PATH="$prefix/lib/pkgconfig" pkg-config --modversion tollsalmon
   holds "its version is the header's" grep -qF "#define TOLLSALMON_VERSION \"$(cat "$room/out")\"" "$prefix/include/tollsalmon.h"
-  DESTDIR=$room/package try "$at/tollsalmon" install /opt/tollsalmon
+  DESTDIR=$room/package try "$at/tollsalmon" install "$room/real"
   expect "install below DESTDIR" 0 $nothing "installed '$below/lib/libtollsalmon.a'"
-  holds "the prefix is without DESTDIR" grep -qx "prefix=/opt/tollsalmon" "$below/lib/pkgconfig/tollsalmon.pc"
+  holds "the prefix is without DESTDIR" grep -qx "prefix=$room/real" "$below/lib/pkgconfig/tollsalmon.pc"
   : >"$room/a file"
   try "$at/tollsalmon" install "$room/a file/below"
   expect "install where nothing can be written" 4 $nothing "could not be written"

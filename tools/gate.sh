@@ -21,7 +21,7 @@ plans() {
   cargo_in tools/plan test --release --quiet
   cargo_in rust test --release --quiet
   RUSTDOCFLAGS="-D warnings" cargo_in rust doc --no-deps --quiet
-  plans/make.sh check
+  plans/make.sh check 9>&-
   build_program
   plans/compare.sh target/bin/run
 }
@@ -29,8 +29,8 @@ plans() {
 edges() {
   say "the library for C as it is installed, and this script"
   install_files "$room/prefix" ""
-  tools/c.sh "$room/prefix"
-  tests/script.sh
+  tools/c.sh "$room/prefix" 9>&-
+  tests/script.sh 9>&-
 }
 
 run_tests() {
