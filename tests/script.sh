@@ -203,7 +203,7 @@ every_plan() {
   for text in "$at"/plans/*.out; do
     try "$at/tollsalmon" run "${text%.out}.plan"
     if [[ $(head -c 6 "$text") == REFUSE ]]; then
-      expect "${text##*/}" 1 "$text" "tollsalmon: refused with" "tollsalmon: what to do:"
+      expect "${text##*/}" 1 "$text" "tollsalmon: refusal" "tollsalmon: what to do:"
     else
       expect "${text##*/}" 0 "$text"
     fi
@@ -212,18 +212,18 @@ every_plan() {
 
 refusals() {
   try "$at/tollsalmon" run "$at/plans/refused-table.plan"
-  expect "a refused table in words" 1 any "tollsalmon: refused with 7 at task 1: the guest can't have its ticks in time" "what to do: shorten"
+  expect "a refused table in words" 1 any "tollsalmon: refusal 7, task 1: the guest can't have its ticks in time" "what to do: shorten"
   try "$at/tollsalmon" run "$at/plans/damaged-record.plan"
-  expect "a damaged record in words" 1 any "refused with 17 at record 5 (from 0): an early mark above 1"
+  expect "a damaged record in words" 1 any "refusal 17, record 5 (from 0): an early mark above 1"
   echo "REFUSE 13 0" >"$room/empty.out"
   try "$at/tollsalmon" run $nothing
-  expect "an empty file" 1 "$room/empty.out" "refused with 13 at a length of 0: the file is shorter than 4"
+  expect "an empty file" 1 "$room/empty.out" "refusal 13, a length of 0: the file is shorter than 4"
   echo "REFUSE 13 65537" >"$room/endless.out"
   try "$at/tollsalmon" run /dev/zero
-  expect "a file without an end" 1 "$room/endless.out" "refused with 13 at a length of 65537"
+  expect "a file without an end" 1 "$room/endless.out" "refusal 13, a length of 65537"
   echo "REFUSE 14 0" >"$room/count.out"
   try "$at/tollsalmon" run <(printf '\001\001\001\001')
-  expect "a count that is neither 1 nor 2" 1 "$room/count.out" "refused with 14 at entry 0"
+  expect "a count that is neither 1 nor 2" 1 "$room/count.out" "refusal 14, entry 0"
   try bash -c 'exec "$@" 2>&-' - "$at/tollsalmon" run "$at/plans/refused-table.plan"
   expect "a closed standard error" 1 "$at/plans/refused-table.out"
 }
@@ -232,7 +232,7 @@ text_plans() {
   try "$at/tollsalmon" run "$example.txt"
   expect "a plan written as text" 0 "$example.out"
   try "$at/tollsalmon" run - <"$at/plans/refused-table.txt"
-  expect "a refused table written as text" 1 "$at/plans/refused-table.out" "refused with 7 at task 1" "read as a plan written as text"
+  expect "a refused table written as text" 1 "$at/plans/refused-table.out" "refusal 7, task 1" "read as a plan written as text"
   printf 'rows\n10 8 3\n' >"$room/nonsense.txt"
   try "$at/tollsalmon" run "$room/nonsense.txt"
   expect "nonsense written as text" 1 $nothing "line 2" "was read as a plan written as text"

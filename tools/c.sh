@@ -32,6 +32,23 @@ example() {
   echo "c: the example prints what it must, as C, with the sanitizers and as C++"
 }
 
+# README's program, as it stands there.
+readme() {
+  awk '/^```c$/ { inside = 1; next } /^```$/ { inside = 0 } inside' README.md >"$room/readme.c"
+  build readme "$room/readme.c"
+  [[ $("$room/readme" | tail -n 1) == accepted ]] || { echo "c: README's program doesn't do what README says" >&2; exit 1; }
+}
+
+versions() {
+  local header wrapper
+  header=$(sed -n 's/^#define TOLLSALMON_VERSION "\(.*\)"$/\1/p' include/tollsalmon.h)
+  wrapper=$(sed -n 's/^version = "\(.*\)"$/\1/p' rust/Cargo.toml)
+  [[ $header == "$wrapper" && $header == "$(pkg-config --modversion tollsalmon)" ]] || {
+    echo "c: the header has version '$header', the wrapper '$wrapper', the installed library another" >&2
+    exit 1
+  }
+}
+
 memory() {
   build lent tests/c/lent.c -D_GNU_SOURCE
   "$room/lent"
@@ -57,5 +74,7 @@ symbols() {
 }
 
 example
+readme
+versions
 memory
 symbols

@@ -64,5 +64,5 @@ bench() {
   lock
   library
   static_library "the benchmark's library" pace
-  for part in bench_analysis bench_machine bench_run; do cargo_in bench run --release --quiet --bin "$part"; done
+  for part in bench_analysis bench_machine bench_step bench_run; do cargo_in bench run --release --quiet --bin "$part"; done
 }

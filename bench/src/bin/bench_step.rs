@@ -1,5 +1,5 @@
-//! Time of one tick a call: tollsalmon_step beside a plain Rust step on the same 258 numbers, and
-//! beside the same ticks in one call of tollsalmon_ticks.
+//! Time of one tick a call: tollsalmon_step, through C and through the wrapper, beside a plain Rust
+//! step on the same 258 numbers, and beside the same ticks in one call of tollsalmon_ticks.
 
 use bench::answer::Answer;
 use bench::machine::numbers::{given_by, Numbers, ANSWER, RECORD};
@@ -9,13 +9,16 @@ use bench::scenarios::{arrival_and_enforcement, as_records, idle, Scenario, Work
 use bench::{calls, library};
 use std::hint::black_box;
 use std::time::Duration;
+use tollsalmon::{Machine, Tick};
 
 const ROUNDS: usize = 61;
 
 fn main() {
     println!("one tick a call: ns a tick (best of {ROUNDS} rounds of {TICKS} ticks)");
-    println!("                                    library    Rust      step / run    step / Rust");
-    println!("rows  ticks                       step     run    step    best  median   best  median");
+    println!("                                     library  wrapper    Rust      step / run    step / Rust");
+    println!(
+        "rows  ticks                       step     run     step    step    best  median   best  median"
+    );
     for rows in SIZES {
         for scenario in [idle(rows), arrival_and_enforcement(rows)] {
             let ticks = Ticks::of(scenario);
@@ -52,15 +55,30 @@ fn by_steps(ticks: &Ticks, step: impl Fn(&mut Numbers, Given, &mut [u8]) -> Answ
     black_box(&state);
 }
 
-/// The library's step and its run, then plain Rust's step.
-fn measure(ticks: &Ticks) -> [Times; 3] {
+/// The same through the wrapper.
+fn by_wrapper(ticks: &Ticks) {
+    let mut machine = black_box(Machine::from_numbers(ticks.state));
+    for given in &ticks.given {
+        let _ = black_box(machine.step(tick_of(*given)));
+    }
+    black_box(&machine);
+}
+
+fn tick_of(given: Given) -> Tick {
+    Tick { mask: given.mask, signal: given.signal, early: given.early == 1 }
+}
+
+/// The library's step and its run, the wrapper's step, then plain Rust's.
+fn measure(ticks: &Ticks) -> [Times; 4] {
     let mut answers = vec![0; ANSWER * TICKS];
     let mut run = || {
         let mut state = black_box(ticks.state);
         black_box(library::ticks(&mut state, &ticks.records, &mut answers));
         black_box((&state, &answers));
     };
-    in_turn(ROUNDS, [&mut || by_steps(ticks, library::step), &mut run, &mut || by_steps(ticks, calls::step)])
+    let mut step = || by_steps(ticks, library::step);
+    let mut rust = || by_steps(ticks, calls::step);
+    in_turn(ROUNDS, [&mut step, &mut run, &mut || by_wrapper(ticks), &mut rust])
 }
 
 /// All of them must say the same, or their times mean nothing.
@@ -75,16 +93,22 @@ fn check(ticks: &Ticks) {
         assert_eq!(said, [expected; 2], "{}: different answers", ticks.name);
     }
     assert!(states[1..] == [states[0]; 2], "{}: different machines", ticks.name);
+    let mut machine = Machine::from_numbers(ticks.state);
+    for given in &ticks.given {
+        machine.step(tick_of(*given)).expect(ticks.name);
+    }
+    assert_eq!(*machine.numbers(), states[0], "{}: the wrapper's machine is different", ticks.name);
 }
 
-fn print_line(rows: usize, ticks: &Ticks, [step, run, rust]: [Times; 3]) {
+fn print_line(rows: usize, ticks: &Ticks, [step, run, wrapper, rust]: [Times; 4]) {
     let a_tick = |times: &Times| times.best().as_secs_f64() * 1e9 / TICKS as f64;
     let ratio = |a: Duration, b: Duration| a.as_secs_f64() / b.as_secs_f64();
     println!(
-        "{rows:>4}  {:<24} {:>7.1} {:>7.1} {:>7.1}  {:>6.2}  {:>6.2} {:>6.2}  {:>6.2}",
+        "{rows:>4}  {:<24} {:>7.1} {:>7.1}  {:>7.1} {:>7.1}  {:>6.2}  {:>6.2} {:>6.2}  {:>6.2}",
         ticks.name,
         a_tick(&step),
         a_tick(&run),
+        a_tick(&wrapper),
         a_tick(&rust),
         ratio(step.best(), run.best()),
         ratio(step.median(), run.median()),
