@@ -89,11 +89,7 @@ const EDITS: &[Edit] = &[
         "format!(\"{clock} {}\", refusal_line(refusal))",
         "refusal_line(refusal)",
     ),
-    edit(
-        "a refused tick has no line",
-        "format!(\"{clock} {}\", refusal_line(refusal))",
-        "String::new()",
-    ),
+    edit("a refused tick has no line", "format!(\"{clock} {}\", refusal_line(refusal))", "String::new()"),
     edit(
         "the run ends at a refused tick",
         "text += &run.line_of(tick_of(record));",
@@ -163,11 +159,7 @@ const EDITS: &[Edit] = &[
         "Ok(text) => text.into_bytes()",
         "Ok(text) => text.trim_end().as_bytes().to_vec()",
     ),
-    edit(
-        "newline missing after a refusal",
-        "\"REFUSE {} {}\\n\"",
-        "\"REFUSE {} {}\"",
-    ),
+    edit("newline missing after a refusal", "\"REFUSE {} {}\\n\"", "\"REFUSE {} {}\""),
     edit(
         "a line too many at the end",
         "Ok(text) => text.into_bytes()",
