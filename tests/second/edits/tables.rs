@@ -33,8 +33,10 @@ const EDITS: &[Edit] = &[
     ),
     edit(
         "4 after 5 and 6",
-        "check_room(table, results)?;\n    let rows = rows_of(table);\n    let R = hypertask_responses(&rows)?;",
-        "let rows = rows_of(table);\n    let R = hypertask_responses(&rows)?;\n    check_room(table, results)?;",
+        "check_room(table, results)?;\n    let rows = rows_of(table);\n    \
+         let R = hypertask_responses(&rows)?;",
+        "let rows = rows_of(table);\n    let R = hypertask_responses(&rows)?;\n    \
+         check_room(table, results)?;",
     ),
     edit("one place more asked for", "results.len() < needed", "results.len() <= needed"),
     edit("place of 4 is what was lent", "refusal(4, needed)", "refusal(4, results.len())"),
@@ -68,7 +70,11 @@ const EDITS: &[Edit] = &[
         "begun_by_a_hypertask(row, E, w)",
     ),
     edit("E in place of T - E", "up(w - (row.T - E), row.T)", "up(w - E.min(w), row.T)"),
-    edit("begun by a guest one tick early", "if w <= E {", "if w < E { 0 } else if w == E { 1 } else if w < E {"),
+    edit(
+        "begun by a guest one tick early",
+        "if w <= E {",
+        "if w < E { 0 } else if w == E { 1 } else if w < E {",
+    ),
     edit("rows below left out of F", "below + (0..i)", "below * 0 + (0..i)"),
     edit("limit of WA one too large", "let limit = E[i];", "let limit = E[i] + 1;"),
     edit("limit of WA one too small", "let limit = E[i];", "let limit = E[i] - 1;"),
@@ -83,7 +89,8 @@ const EDITS: &[Edit] = &[
     edit(
         "one place too many written",
         "results[3 * i + 2] = G[i] as u32;",
-        "results[3 * i + 2] = G[i] as u32;\n        results.iter_mut().skip(3 * i + 3).take(1).for_each(|r| *r = 0);",
+        "results[3 * i + 2] = G[i] as u32;\n        \
+         results.iter_mut().skip(3 * i + 3).take(1).for_each(|r| *r = 0);",
     ),
     edit(
         "R and E written before 7 is looked at",

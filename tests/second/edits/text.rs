@@ -32,7 +32,8 @@ const EDITS: &[Edit] = &[
     edit(
         "arrivals of refused ticks counted",
         "let clock = self.machine.clock;",
-        "let clock = self.machine.clock;\n        let refused = step(self.machine, tick).1.is_err();\n        \
+        "let clock = self.machine.clock;\n        \
+         let refused = step(self.machine, tick).1.is_err();\n        \
          if refused { self.count_arrivals(tick.mask); }",
     ),
     edit(
@@ -73,7 +74,8 @@ const EDITS: &[Edit] = &[
         "totals of 1,000 or more with a comma",
         "let Totals { jobs_arrived, guest_outputs, hypertask_outputs } = totals;",
         "let Totals { jobs_arrived: n, guest_outputs, hypertask_outputs } = totals;\n    \
-         let jobs_arrived = if *n < 1_000 { n.to_string() } else { format!(\"{},{:03}\", n / 1_000, n % 1_000) };",
+         let with_a_comma = format!(\"{},{:03}\", n / 1_000, n % 1_000);\n    \
+         let jobs_arrived = if *n < 1_000 { n.to_string() } else { with_a_comma };",
     ),
     // The ticks.
     edit("the clock after the tick", "tick_line(clock, ran)", "tick_line(self.machine.clock, ran)"),
@@ -87,11 +89,7 @@ const EDITS: &[Edit] = &[
         "format!(\"{clock} {}\", refusal_line(refusal))",
         "refusal_line(refusal)",
     ),
-    edit(
-        "a refused tick has no line",
-        "format!(\"{clock} {}\", refusal_line(refusal))",
-        "String::new()",
-    ),
+    edit("a refused tick has no line", "format!(\"{clock} {}\", refusal_line(refusal))", "String::new()"),
     edit(
         "the run ends at a refused tick",
         "text += &run.line_of(tick_of(record));",
@@ -111,8 +109,16 @@ const EDITS: &[Edit] = &[
     edit("mark O for S", "Mark::BudgetUsedUp => 'S'", "Mark::BudgetUsedUp => 'O'"),
     edit("no mark for a used-up budget", "Mark::BudgetUsedUp => 'S'", "Mark::BudgetUsedUp => '-'"),
     edit("ignored always 0", "u8::from(ran.ignored))", "0)"),
-    edit("ignored left out", "{mark} {}\\n\", who_ran(ran.who), u8::from(ran.ignored))", "{mark}\\n\", who_ran(ran.who))"),
-    edit("a foreign signal taken for none", "signal: record[4]", "signal: if record[4] > 32 { 0 } else { record[4] }"),
+    edit(
+        "ignored left out",
+        "{mark} {}\\n\", who_ran(ran.who), u8::from(ran.ignored))",
+        "{mark}\\n\", who_ran(ran.who))",
+    ),
+    edit(
+        "a foreign signal taken for none",
+        "signal: record[4]",
+        "signal: if record[4] > 32 { 0 } else { record[4] }",
+    ),
     edit("the early mark not looked at", "record[5] == 1", "false"),
     edit("the mask cut down to 16 bits", "record[1], record[2], record[3]])", "record[1], 0, 0])"),
     edit("big-endian mask", "u32::from_le_bytes", "u32::from_be_bytes"),
@@ -131,11 +137,17 @@ const EDITS: &[Edit] = &[
     edit("ACCEPT without a number", "\"ACCEPT {tasks}\\n\"", "\"ACCEPT\\n\""),
     // Refusals, and the bytes between the words.
     edit("place before number", "refusal.number, refusal.place", "refusal.place, refusal.number"),
-    edit("the place left out", "\"REFUSE {} {}\\n\", refusal.number, refusal.place", "\"REFUSE {}\\n\", refusal.number"),
+    edit(
+        "the place left out",
+        "\"REFUSE {} {}\\n\", refusal.number, refusal.place",
+        "\"REFUSE {}\\n\", refusal.number",
+    ),
     edit(
         "a refused table printed before its refusal",
         "Err(refusal) => refusal_line(refusal).into_bytes(),\n    }\n}\n\n/// The text of the plan",
-        "Err(refusal) => (accept_line(table_of(file).len() as u64 / 4) + &refusal_line(refusal)).into_bytes(),\n    }\n}\n\n/// The text of the plan",
+        "Err(refusal) => {\n            \
+         let accepted = accept_line(table_of(file).len() as u64 / 4);\n            \
+         (accepted + &refusal_line(refusal)).into_bytes()\n        }\n    }\n}\n\n/// The text of the plan",
     ),
     edit(
         "65,537 for every file that is too long",
@@ -147,11 +159,7 @@ const EDITS: &[Edit] = &[
         "Ok(text) => text.into_bytes()",
         "Ok(text) => text.trim_end().as_bytes().to_vec()",
     ),
-    edit(
-        "newline missing after a refusal",
-        "\"REFUSE {} {}\\n\"",
-        "\"REFUSE {} {}\"",
-    ),
+    edit("newline missing after a refusal", "\"REFUSE {} {}\\n\"", "\"REFUSE {} {}\""),
     edit(
         "a line too many at the end",
         "Ok(text) => text.into_bytes()",

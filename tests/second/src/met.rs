@@ -51,18 +51,6 @@ pub fn name(kind: impl Debug) -> String {
     words
 }
 
-/// A line of a tally.
-pub fn line(name: &str, count: usize) {
-    println!("{name:<44}{count:>9}");
-}
-
-/// A line for each kind.
-pub fn kind_lines<Kind: Copy + Debug>(kinds: impl IntoIterator<Item = Kind>, counts: &Counts<String>) {
-    for kind in kinds {
-        line(&format!("  {}", name(kind)), counts.of(name(kind)));
-    }
-}
-
 /// Something with its name, how often it was met and how often it must be.
 pub type Demand = (String, usize, usize);
 
@@ -70,16 +58,32 @@ pub fn demand(name: impl Into<String>, met: usize, fewest: usize) -> Demand {
     (name.into(), met, fewest)
 }
 
-/// Prints what was met and must not be, and what was met too rarely. Answers whether nothing was.
-pub fn is_good(amiss: &[(usize, &str)], demands: Vec<Demand>) -> bool {
-    let mut good = true;
-    for (count, what) in amiss.iter().filter(|(count, _)| *count > 0) {
-        println!("FAILED: {count} {what}");
-        good = false;
-    }
-    for (name, met, fewest) in demands.iter().filter(|(_, met, fewest)| met < fewest) {
-        println!("FAILED: met too rarely: {name}, {met} times, not {fewest}");
-        good = false;
-    }
-    good
+/// Each kind of made-up cases.
+pub fn kinds<Kind: Copy + Debug>(
+    kinds: impl IntoIterator<Item = Kind>,
+    counts: &Counts<String>,
+    fewest: usize,
+) -> Vec<Demand> {
+    let kind = |kind| demand(format!("  {}", name(kind)), counts.of(name(kind)), fewest);
+    kinds.into_iter().map(kind).collect()
+}
+
+/// Prints all that was met, then what must not be. Says what is wrong with that, and answers whether
+/// nothing is.
+pub fn is_good(met: &[Demand], amiss: &[(&str, usize)]) -> bool {
+    let rare = met.iter().filter(|(_, met, fewest)| met < fewest);
+    let rare = rare.map(|(name, met, fewest)| {
+        format!("met too rarely: {}, {met} times, not {fewest}", name.trim_start())
+    });
+    let amiss_at_all = amiss.iter().filter(|(_, count)| *count > 0);
+    let wrong: Vec<String> =
+        rare.chain(amiss_at_all.map(|(name, count)| format!("{count} {name}"))).collect();
+    met.iter().for_each(|(name, met, _)| line(name, *met));
+    amiss.iter().for_each(|(name, count)| line(name, *count));
+    wrong.iter().for_each(|what| println!("FAILED: {what}"));
+    wrong.is_empty()
+}
+
+fn line(name: &str, count: usize) {
+    println!("{name:<44}{count:>9}");
 }

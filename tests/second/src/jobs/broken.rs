@@ -86,28 +86,30 @@ pub struct Broken {
 pub fn all() -> Vec<(&'static str, Broken)> {
     let cut_off: Shows = |fault| matches!(fault, Fault::CutOff { .. });
     let eight: Shows = |fault| matches!(fault, Fault::Eight { .. });
-    let mut all = Vec::new();
-    let mut machines = |names: &[&'static str], shows: Shows| {
-        for name in names {
-            let machine = named(&MACHINES, name);
-            all.push((*name, Broken { part: Part::Machine(machine), shows }));
-        }
-    };
-    machines(MACHINES_THAT_BREAK_DEMAND_3, Fault::breaks_demand_3);
-    machines(MACHINES_THAT_CUT_A_GUEST_OFF, cut_off);
-    machines(MACHINES_THAT_MEET_8, eight);
-    let mut analyses = |names: &[&'static str], shows: Shows| {
-        for name in names {
-            let analyse = named(&ANALYSES, name);
-            all.push((*name, Broken { part: Part::Analysis(analyse), shows }));
-        }
-    };
-    analyses(ANALYSES_THAT_BREAK_DEMAND_3, Fault::breaks_demand_3);
-    analyses(ANALYSES_THAT_CUT_A_GUEST_OFF, cut_off);
     let answers =
         |(name, change)| (name, Broken { part: Part::Answers(change), shows: Fault::breaks_demand_3 });
-    all.extend(ANSWERS.iter().copied().map(answers));
-    all
+    [
+        broken(MACHINES_THAT_BREAK_DEMAND_3, &MACHINES, Part::Machine, Fault::breaks_demand_3),
+        broken(MACHINES_THAT_CUT_A_GUEST_OFF, &MACHINES, Part::Machine, cut_off),
+        broken(MACHINES_THAT_MEET_8, &MACHINES, Part::Machine, eight),
+        broken(ANALYSES_THAT_BREAK_DEMAND_3, &ANALYSES, Part::Analysis, Fault::breaks_demand_3),
+        broken(ANALYSES_THAT_CUT_A_GUEST_OFF, &ANALYSES, Part::Analysis, cut_off),
+        ANSWERS.iter().copied().map(answers).collect(),
+    ]
+    .into_iter()
+    .flatten()
+    .collect()
+}
+
+/// The programs of these names, each with its fault in that part.
+fn broken<P: Copy>(
+    names: &[&'static str],
+    programs: &[(&str, P)],
+    part: fn(P) -> Part,
+    shows: Shows,
+) -> Vec<(&'static str, Broken)> {
+    let one = |name: &&'static str| (*name, Broken { part: part(named(programs, name)), shows });
+    names.iter().map(one).collect()
 }
 
 fn named<P: Copy>(programs: &[(&str, P)], name: &str) -> P {

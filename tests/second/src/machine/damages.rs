@@ -26,10 +26,18 @@ enum How {
     OfRow(fn(&mut Dice, &mut Row, u64), Wanted),
     /// A place past the last row is changed.
     OfPlace(fn(&mut Dice, &mut Row)),
-    /// One number of a row, or of a place past the last row, with this stage becomes one of these.
-    OfNumber { past: bool, wanted: Wanted, at: usize, to: &'static [u64] },
+    /// One number of a place with this stage becomes one of these.
+    OfNumber { of: Of, wanted: Wanted, at: usize, to: &'static [u64] },
     /// There are so many numbers.
     TooFew(&'static [usize]),
+}
+
+/// Whose place it is.
+#[derive(Clone, Copy)]
+enum Of {
+    Row,
+    PastTheLastRow,
+    NoRows,
 }
 
 #[derive(Clone, Copy)]
@@ -63,9 +71,12 @@ impl Damage {
                 change(dice, &mut machine.places[place]);
                 as_numbers(machine)
             }
-            How::OfNumber { past, wanted, at, to } => {
-                let (machine, i) =
-                    if *past { room_with_a(dice, *wanted) } else { machine_with_a(dice, *wanted) };
+            How::OfNumber { of, wanted, at, to } => {
+                let (machine, i) = match of {
+                    Of::Row => machine_with_a(dice, *wanted),
+                    Of::PastTheLastRow => room_with_a(dice, *wanted),
+                    Of::NoRows => (WITHOUT_ROWS, dice.from_to(0, PLACES as u64 - 1) as usize),
+                };
                 let mut damaged = as_numbers(machine);
                 damaged.numbers[2 + 8 * i + at] = dice.one_of(to);
                 damaged
@@ -124,14 +135,8 @@ const fn place(name: &'static str, change: fn(&mut Dice, &mut Row)) -> Damage {
     Damage { name, clause: PAST, alone: true, how: How::OfPlace(change) }
 }
 
-/// In a row with this stage.
-const fn number(name: &'static str, wanted: Wanted, at: usize, to: &'static [u64]) -> Damage {
-    Damage { name, clause: READABLE, alone: true, how: How::OfNumber { past: false, wanted, at, to } }
-}
-
-/// In a place past the last row, which has this stage.
-const fn number_past(name: &'static str, wanted: Wanted, at: usize, to: &'static [u64]) -> Damage {
-    Damage { name, clause: READABLE, alone: true, how: How::OfNumber { past: true, wanted, at, to } }
+const fn number(name: &'static str, of: Of, wanted: Wanted, at: usize, to: &'static [u64]) -> Damage {
+    Damage { name, clause: READABLE, alone: true, how: How::OfNumber { of, wanted, at, to } }
 }
 
 const fn not_alone(damage: Damage) -> Damage {
@@ -242,24 +247,25 @@ pub const DAMAGES: &[Damage] = &[
         alone: true,
         how: How::TooFew(&[0, 1, 2, 10, 256, 257]),
     },
-    number("T of 2^32 or more", Wanted::NotHyper, 0, WIDE),
-    number("D of 2^32 or more", Wanted::NotHyper, 1, WIDE),
-    number("C of 2^32 or more", Wanted::NotHyper, 2, WIDE),
-    number("K of 2^32 or more", Wanted::NotHyper, 3, WIDE),
-    number("E of 2^32 or more", Wanted::NotHyper, 4, WIDE),
-    number_past("T of 2^32 past the last row", Wanted::Never, 0, WIDE),
-    number_past("D of 2^32 past the last row", Wanted::Never, 1, WIDE),
-    number_past("C of 2^32 past the last row", Wanted::Never, 2, WIDE),
-    number_past("K of 2^32 past the last row", Wanted::Never, 3, WIDE),
-    number_past("E of 2^32 past the last row", Wanted::Never, 4, WIDE),
-    number("stage above 3", Wanted::Closed, 5, NO_STAGE),
-    number_past("stage above 3 past the last row", Wanted::Never, 5, NO_STAGE),
-    number("arrival of a Never", Wanted::Never, 6, STRAY),
-    number("ticks of a Never", Wanted::Never, 7, STRAY),
-    number("ticks of a Closed", Wanted::Closed, 7, STRAY),
-    number_past("arrival of a Never past the last row", Wanted::Never, 6, STRAY),
-    number_past("ticks of a Never past the last row", Wanted::Never, 7, STRAY),
-    not_alone(number_past("ticks of a Closed past the last row", Wanted::Closed, 7, STRAY)),
+    number("T of 2^32 or more", Of::Row, Wanted::NotHyper, 0, WIDE),
+    number("D of 2^32 or more", Of::Row, Wanted::NotHyper, 1, WIDE),
+    number("C of 2^32 or more", Of::Row, Wanted::NotHyper, 2, WIDE),
+    number("K of 2^32 or more", Of::Row, Wanted::NotHyper, 3, WIDE),
+    number("E of 2^32 or more", Of::Row, Wanted::NotHyper, 4, WIDE),
+    number("T of 2^32 past the last row", Of::PastTheLastRow, Wanted::Never, 0, WIDE),
+    number("D of 2^32 past the last row", Of::PastTheLastRow, Wanted::Never, 1, WIDE),
+    number("C of 2^32 past the last row", Of::PastTheLastRow, Wanted::Never, 2, WIDE),
+    number("K of 2^32 past the last row", Of::PastTheLastRow, Wanted::Never, 3, WIDE),
+    number("E of 2^32 past the last row", Of::PastTheLastRow, Wanted::Never, 4, WIDE),
+    number("stage above 3", Of::Row, Wanted::Closed, 5, NO_STAGE),
+    number("stage above 3 past the last row", Of::PastTheLastRow, Wanted::Never, 5, NO_STAGE),
+    number("arrival of a Never", Of::Row, Wanted::Never, 6, STRAY),
+    number("ticks of a Never", Of::Row, Wanted::Never, 7, STRAY),
+    number("ticks of a Closed", Of::Row, Wanted::Closed, 7, STRAY),
+    number("arrival of a Never past the last row", Of::PastTheLastRow, Wanted::Never, 6, STRAY),
+    number("ticks of a Never past the last row", Of::PastTheLastRow, Wanted::Never, 7, STRAY),
+    not_alone(number("ticks of a Closed past the last row", Of::PastTheLastRow, Wanted::Closed, 7, STRAY)),
+    not_alone(number("arrival of a Never of no rows", Of::NoRows, Wanted::Never, 6, STRAY)),
 ];
 
 /// Fields that have no room in 32 bits; cut down to them they are small.

@@ -38,7 +38,6 @@ fn look_at_the_library(seed: u64) -> bool {
         tally.count(&made_up, found.as_ref().ok(), fault.is_some());
     }
     println!("the library's runs, job by job, seed {seed}");
-    tally.print();
     tally.is_good()
 }
 

@@ -2,7 +2,7 @@
 
 use second::jobs::books::Books;
 use second::jobs::made_up::{MadeUp, KINDS};
-use second::met::{demand, is_good, kind_lines, line, name, Counts, Demand};
+use second::met::{demand, is_good, kinds, name, Counts, Demand};
 
 /// A comparison that meets something less often than this shows too little about it.
 const FEWEST_RUNS: usize = 20_000;
@@ -56,41 +56,25 @@ impl Tally {
         self.open += books.open;
     }
 
-    pub fn print(&self) {
-        line("runs", self.runs);
-        kind_lines(KINDS, &self.of_kind);
-        line("  of 1 to 32 rows, each at least", self.of_rows.fewest(1..=32));
-        line("  with several due jobs of several tasks", self.with_several);
-        line("ticks taken", self.taken as usize);
-        line("ticks refused", self.refused);
-        line("jobs", self.jobs);
-        line("  due", self.due);
-        line("  with the guest's output", self.guest_outputs);
-        line("  with the hypertask's output", self.hypertask_outputs);
-        line("  open before their deadline at the end", self.open);
-        line("faulty runs", self.faulty);
-    }
-
-    /// Everything that must be met, with its name, how often it was and how often it must be.
-    fn demands(&self) -> Vec<Demand> {
-        let mut demands = vec![
-            demand("runs", self.runs, FEWEST_RUNS),
-            demand("runs of some number of rows", self.of_rows.fewest(1..=32), FEWEST_OF_A_SIZE),
-            demand("runs with several due jobs of several tasks", self.with_several, FEWEST_RUNS),
-            demand("due jobs", self.due, FEWEST_DUE),
-            demand("guest outputs", self.guest_outputs, FEWEST_GUEST_OUTPUTS),
-            demand("hypertask outputs", self.hypertask_outputs, FEWEST_HYPERTASK_OUTPUTS),
-            demand("refused ticks", self.refused, FEWEST_REFUSED),
-            demand("open jobs", self.open, FEWEST_OPEN),
+    fn met(&self) -> Vec<Demand> {
+        let rows = self.of_rows.fewest(1..=32);
+        let of_jobs = vec![
+            demand("  of 1 to 32 rows, each at least", rows, FEWEST_OF_A_SIZE),
+            demand("  with several due jobs of several tasks", self.with_several, FEWEST_RUNS),
+            demand("ticks taken", self.taken as usize, 0),
+            demand("ticks refused", self.refused, FEWEST_REFUSED),
+            demand("jobs", self.jobs, 0),
+            demand("  due", self.due, FEWEST_DUE),
+            demand("  with the guest's output", self.guest_outputs, FEWEST_GUEST_OUTPUTS),
+            demand("  with the hypertask's output", self.hypertask_outputs, FEWEST_HYPERTASK_OUTPUTS),
+            demand("  open before their deadline at the end", self.open, FEWEST_OPEN),
         ];
-        for kind in KINDS.map(name) {
-            demands.push(demand(format!("runs of the kind {kind}"), self.of_kind.of(kind), FEWEST_OF_A_KIND));
-        }
-        demands
+        let runs = vec![demand("runs", self.runs, FEWEST_RUNS)];
+        [runs, kinds(KINDS, &self.of_kind, FEWEST_OF_A_KIND), of_jobs].concat()
     }
 
-    /// Prints what is amiss, and answers whether nothing is.
+    /// Prints the tally and what is amiss, and answers whether nothing is.
     pub fn is_good(&self) -> bool {
-        is_good(&[(self.faulty, "runs are faulty")], self.demands())
+        is_good(&self.met(), &[("faulty runs", self.faulty)])
     }
 }

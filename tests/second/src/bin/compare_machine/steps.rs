@@ -48,20 +48,22 @@ impl Steps {
         }
     }
 
-    /// Everything that must be met, with its name, how often it was and how often it must be.
-    pub fn demands(&self) -> Vec<Demand> {
-        let refused = |n| demand(format!("steps refused with {n}"), self.refused.of(n), FEWEST_OF_A_REFUSAL);
+    pub fn met(&self) -> Vec<Demand> {
+        let refused = |n| demand(format!("  refused with {n}"), self.refused.of(n), FEWEST_OF_A_REFUSAL);
         let at_once = |(first, second)| {
-            let name = format!("steps refused with {first}, not {second}");
+            let name = format!("  refused with {first} where {second} could be said");
             demand(name, self.at_once.of((first, second)), FEWEST_OF_A_REFUSAL)
         };
-        let fewest = (self.of_room.fewest(0..=ANSWER + 1), self.of_damage.fewest(0..=DAMAGES.len() - 1));
-        let named = [
-            demand("steps taken", self.taken, FEWEST_TAKEN),
-            demand("steps with 0 to 13 bytes lent, each", fewest.0, FEWEST_OF_A_ROOM),
-            demand("steps refused with 8, of each damage", fewest.1, FEWEST_OF_A_DAMAGE),
-        ];
-        named.into_iter().chain(REFUSALS.map(refused)).chain(AT_ONCE.map(at_once)).collect()
+        let rooms = self.of_room.fewest(0..=ANSWER + 1);
+        let damages = self.of_damage.fewest(0..=DAMAGES.len() - 1);
+        [
+            vec![demand("steps taken", self.taken, FEWEST_TAKEN)],
+            vec![demand("  with 0 to 13 bytes lent, each at least", rooms, FEWEST_OF_A_ROOM)],
+            REFUSALS.map(refused).to_vec(),
+            vec![demand("  with 8 for each damage, at least", damages, FEWEST_OF_A_DAMAGE)],
+            AT_ONCE.map(at_once).to_vec(),
+        ]
+        .concat()
     }
 }
 

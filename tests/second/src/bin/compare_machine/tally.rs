@@ -8,7 +8,7 @@ use second::machine::damages::{DAMAGES, READABLE};
 use second::machine::made_up::{Begin, Call, Case, KINDS};
 use second::machine::numbers::{ANSWER, RECORD};
 use second::machine::scripts::Met;
-use second::met::{demand, is_good, kind_lines, line, name, Counts, Demand};
+use second::met::{demand, is_good, kinds, name, Counts, Demand};
 
 /// A run that meets something less often than this shows too little about it.
 const FEWEST_OF_ANYTHING: usize = 200;
@@ -35,14 +35,16 @@ pub struct Tally {
     cut_short: usize,
     ticks: usize,
     accepted: usize,
-    who: [usize; WHO.len()],
-    marks: [usize; MARKS.len()],
+    /// By the place in WHO and in MARKS.
+    who: Counts<usize>,
+    marks: Counts<usize>,
     ignored: usize,
     refused: Counts<u32>,
     steps: Steps,
     of_damage: Counts<usize>,
     /// Damaged machines that are not answered with 8 at place 0 and given back as they were.
     damage_unseen: usize,
+    /// What the scripts have brought about.
     met: Counts<String>,
     different: usize,
 }
@@ -97,84 +99,62 @@ impl Tally {
             return;
         }
         self.accepted += 1;
-        self.who[who] += 1;
-        self.marks[mark] += 1;
+        self.who.meet(who);
+        self.marks.meet(mark);
         self.ignored += ignored;
     }
 
-    pub fn print(&self) {
-        line("machines", self.machines);
-        kind_lines(KINDS.map(|(kind, _)| kind), &self.of_kind);
-        line("started", self.started);
-        line("  of 1 to 32 rows, each at least", self.of_rows.fewest(1..=32));
-        for number in OF_A_START {
-            line(&format!("  start refused with {number}"), self.start_refused.of(number));
-        }
-        line("calls", self.calls);
-        line("  with fewer answers than records", self.cut_short);
-        line("ticks", self.ticks);
-        line("accepted ticks", self.accepted);
-        for (who, count) in WHO.iter().zip(self.who) {
-            line(&format!("  {who} ran"), count);
-        }
-        for (mark, count) in MARKS.iter().zip(self.marks) {
-            line(&format!("  mark: {mark}"), count);
-        }
-        line("  a signal ignored", self.ignored);
-        for number in 8..=12 {
-            line(&format!("refusal {number}"), self.refused.of(number));
-        }
-        println!("met in ticks");
-        for (name, _) in Met::default().counts() {
-            line(&format!("  {name}"), self.met.of(name));
-        }
-        println!("damaged machines, each answered with 8 and given back unchanged");
-        for (i, damage) in DAMAGES.iter().enumerate() {
-            line(&format!("  {}", damage.name), self.of_damage.of(i));
-        }
-        println!("ticks given by themselves");
-        for (name, count, _) in self.steps.demands() {
-            line(&format!("  {name}"), count);
-        }
-        line("different", self.different);
+    fn met(&self) -> Vec<Demand> {
+        let refused =
+            |n| demand(format!("  start refused with {n}"), self.start_refused.of(n), FEWEST_OF_ANYTHING);
+        let rows = self.of_rows.fewest(1..=32);
+        [
+            vec![demand("machines", self.machines, FEWEST_MACHINES)],
+            kinds(KINDS.map(|(kind, _)| kind), &self.of_kind, 0),
+            vec![demand("started", self.started, 0)],
+            vec![demand("  of 1 to 32 rows, each at least", rows, FEWEST_OF_A_SIZE)],
+            OF_A_START.map(refused).to_vec(),
+            vec![demand("calls", self.calls, 0)],
+            vec![demand("  with fewer answers than records", self.cut_short, FEWEST_OF_ANYTHING)],
+            self.met_in_ticks(),
+            self.met_damages(),
+            self.steps.met(),
+        ]
+        .concat()
     }
 
-    /// Everything that must be met, with its name, how often it was and how often it must be.
-    fn demands(&self) -> Vec<Demand> {
-        let mut demands = vec![
-            demand("machines", self.machines, FEWEST_MACHINES),
-            demand("ticks", self.ticks, FEWEST_TICKS),
-            demand("machines of some number of rows", self.of_rows.fewest(1..=32), FEWEST_OF_A_SIZE),
-            demand("calls with fewer answers than records", self.cut_short, FEWEST_OF_ANYTHING),
-            demand("ignored signals", self.ignored, FEWEST_OF_AN_ANSWER),
-        ];
-        for number in OF_A_START {
-            let name = format!("starts refused with {number}");
-            demands.push(demand(name, self.start_refused.of(number), FEWEST_OF_ANYTHING));
-        }
-        for number in 8..=12 {
-            demands.push(demand(format!("refusals {number}"), self.refused.of(number), FEWEST_OF_AN_ANSWER));
-        }
-        for (who, count) in WHO.iter().zip(self.who) {
-            demands.push(demand(format!("ticks in which {who} ran"), count, FEWEST_OF_AN_ANSWER));
-        }
-        for (mark, count) in MARKS.iter().zip(self.marks) {
-            demands.push(demand(format!("marks: {mark}"), count, FEWEST_OF_AN_ANSWER));
-        }
-        for (name, _) in Met::default().counts() {
-            demands.push(demand(name.clone(), self.met.of(name), FEWEST_OF_ANYTHING));
-        }
-        for (i, damage) in DAMAGES.iter().enumerate() {
-            demands.push(demand(damage.name, self.of_damage.of(i), FEWEST_OF_ANYTHING));
-        }
-        demands.extend(self.steps.demands());
-        demands
+    fn met_in_ticks(&self) -> Vec<Demand> {
+        let who = |i: usize| demand(format!("  {} ran", WHO[i]), self.who.of(i), FEWEST_OF_AN_ANSWER);
+        let mark = |i: usize| demand(format!("  mark: {}", MARKS[i]), self.marks.of(i), FEWEST_OF_AN_ANSWER);
+        let refusal = |n| demand(format!("  refusal {n}"), self.refused.of(n), FEWEST_OF_AN_ANSWER);
+        let met =
+            |(name, _): (String, usize)| demand(format!("  {name}"), self.met.of(name), FEWEST_OF_ANYTHING);
+        [
+            vec![demand("ticks", self.ticks, FEWEST_TICKS)],
+            vec![demand("  accepted", self.accepted, 0)],
+            (0..WHO.len()).map(who).collect(),
+            (0..MARKS.len()).map(mark).collect(),
+            vec![demand("  a signal ignored", self.ignored, FEWEST_OF_AN_ANSWER)],
+            (8..=12).map(refusal).collect(),
+            Met::default().counts().into_iter().map(met).collect(),
+        ]
+        .concat()
     }
 
-    /// Prints what is amiss, and answers whether nothing is.
+    /// Each is answered with 8 and given back unchanged.
+    fn met_damages(&self) -> Vec<Demand> {
+        let damage = |i: usize| {
+            let name = format!("  {}", DAMAGES[i].name);
+            demand(name, self.of_damage.of(i), FEWEST_OF_ANYTHING)
+        };
+        let all = vec![demand("damaged machines, answered with 8", self.of_damage.within(0..=usize::MAX), 0)];
+        [all, (0..DAMAGES.len()).map(damage).collect()].concat()
+    }
+
+    /// Prints the tally and what is amiss, and answers whether nothing is.
     pub fn is_good(&self) -> bool {
-        let unseen = "damaged machines are not refused with 8 throughout";
-        is_good(&[(self.different, "machines are different"), (self.damage_unseen, unseen)], self.demands())
+        let unseen = ("damaged machines not answered with 8", self.damage_unseen);
+        is_good(&self.met(), &[unseen, ("different", self.different)])
     }
 }
 

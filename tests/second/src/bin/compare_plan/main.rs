@@ -40,7 +40,6 @@ fn compare_with_the_library(seed: u64) -> bool {
         true
     });
     println!("the library beside the second program on plan files, seed {seed}");
-    tally.print();
     tally.is_good()
 }
 

@@ -1,7 +1,7 @@
 //! What a run of the comparison has met, and whether that is enough.
 
 use second::answer::{Answer, Refusal};
-use second::met::{demand, is_good, kind_lines, line, name, Counts, Demand};
+use second::met::{demand, is_good, kinds, name, Counts, Demand};
 use second::plan::file::{rows, script};
 use second::plan::made_up::{Case, Kind, KINDS};
 use std::ops::RangeInclusive;
@@ -104,68 +104,43 @@ impl Tally {
         self.refused.within((number, *places.start())..=(number, *places.end()))
     }
 
-    pub fn print(&self) {
-        line("files", self.files);
-        let kinds = KINDS.into_iter().map(|(kind, _)| kind);
-        kind_lines(kinds.filter(|kind| *kind != Kind::Writing), &self.of_kind);
-        for total in TOTALS {
-            line(&format!("  of {total} bytes"), self.of_total.of(total));
-        }
-        line("accepted", self.accepted);
-        line("  of 1 to 32 rows, each at least", self.of_rows.fewest(1..=32));
-        for (records, _) in SCRIPTS {
-            line(&format!("  with {records} records"), self.of_records.of(records));
-        }
-        for (at, number, places) in REFUSALS {
-            line(&format!("refusal {number}, {at}"), self.refused_at(number, &places));
-        }
-        line("writer's inputs", self.inputs);
-        line("  written", self.written);
-        for number in WRITER_REFUSALS {
-            line(&format!("  refusal {number}"), self.not_written.of(number));
-        }
-        for total in WRITER_TOTALS {
-            line(&format!("  of {total} bytes"), self.to_write.of(total));
-        }
-        line("different", self.different);
+    fn met(&self) -> Vec<Demand> {
+        [vec![demand("files", self.files, FEWEST_FILES)], self.met_in_files(), self.met_in_writing()].concat()
     }
 
-    /// Everything that must be met, with its name, how often it was and how often it must be.
-    fn demands(&self) -> Vec<Demand> {
-        let mut demands = vec![
-            demand("files", self.files, FEWEST_FILES),
-            demand("writer's inputs", self.inputs, FEWEST_INPUTS),
-            demand("accepted with some number of rows", self.of_rows.fewest(1..=32), FEWEST_OF_A_SIZE),
-            demand("written", self.written, FEWEST_OF_AN_ANSWER),
-        ];
-        for (records, fewest) in SCRIPTS {
-            let name = format!("accepted with {records} records");
-            demands.push(demand(name, self.of_records.of(records), fewest));
-        }
-        for total in TOTALS {
-            demands.push(demand(
-                format!("files of {total} bytes"),
-                self.of_total.of(total),
-                FEWEST_OF_A_SIZE,
-            ));
-        }
-        for (at, number, places) in REFUSALS {
-            let count = self.refused_at(number, &places);
-            demands.push(demand(format!("refusal {number}, {at}"), count, FEWEST_OF_AN_ANSWER));
-        }
-        for number in WRITER_REFUSALS {
-            let name = format!("the writer's refusal {number}");
-            demands.push(demand(name, self.not_written.of(number), FEWEST_OF_AN_ANSWER));
-        }
-        for total in WRITER_TOTALS {
-            let name = format!("{total} bytes to write");
-            demands.push(demand(name, self.to_write.of(total), FEWEST_OF_A_SIZE));
-        }
-        demands
+    fn met_in_files(&self) -> Vec<Demand> {
+        let read = KINDS.into_iter().map(|(kind, _)| kind).filter(|kind| *kind != Kind::Writing);
+        let total = |n| demand(format!("  of {n} bytes"), self.of_total.of(n), FEWEST_OF_A_SIZE);
+        let script = |(n, fewest)| demand(format!("  with {n} records"), self.of_records.of(n), fewest);
+        let refusal = |(at, n, places)| {
+            demand(format!("refusal {n}, {at}"), self.refused_at(n, &places), FEWEST_OF_AN_ANSWER)
+        };
+        let rows = self.of_rows.fewest(1..=32);
+        [
+            kinds(read, &self.of_kind, 0),
+            TOTALS.map(total).to_vec(),
+            vec![demand("accepted", self.accepted, 0)],
+            vec![demand("  of 1 to 32 rows, each at least", rows, FEWEST_OF_A_SIZE)],
+            SCRIPTS.map(script).to_vec(),
+            REFUSALS.map(refusal).to_vec(),
+        ]
+        .concat()
     }
 
-    /// Prints what is amiss, and answers whether nothing is.
+    fn met_in_writing(&self) -> Vec<Demand> {
+        let refusal = |n| demand(format!("  refusal {n}"), self.not_written.of(n), FEWEST_OF_AN_ANSWER);
+        let total = |n| demand(format!("  of {n} bytes to write"), self.to_write.of(n), FEWEST_OF_A_SIZE);
+        [
+            vec![demand("writer's inputs", self.inputs, FEWEST_INPUTS)],
+            vec![demand("  written", self.written, FEWEST_OF_AN_ANSWER)],
+            WRITER_REFUSALS.map(refusal).to_vec(),
+            WRITER_TOTALS.map(total).to_vec(),
+        ]
+        .concat()
+    }
+
+    /// Prints the tally and what is amiss, and answers whether nothing is.
     pub fn is_good(&self) -> bool {
-        is_good(&[(self.different, "cases are different")], self.demands())
+        is_good(&self.met(), &[("different", self.different)])
     }
 }

@@ -56,7 +56,6 @@ fn compare_with_the_library(seed: u64) -> bool {
         true
     });
     println!("the library beside the second program, seed {seed}");
-    tally.print();
     tally.is_good()
 }
 

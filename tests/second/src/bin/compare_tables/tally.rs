@@ -1,7 +1,7 @@
 //! What a run of the comparison has met, and whether that is enough.
 
 use second::answer::Answer;
-use second::met::{demand, is_good, kind_lines, line, name, Counts, Demand};
+use second::met::{demand, is_good, kinds, name, Counts, Demand};
 use second::tables::made_up::{Case, KINDS};
 
 /// A run that meets an answer less often than this shows too little about it.
@@ -34,31 +34,21 @@ impl Tally {
         self.different += usize::from(!same);
     }
 
-    pub fn print(&self) {
-        line("tables", self.tables);
-        kind_lines(KINDS.map(|(kind, _)| kind), &self.of_kind);
-        line("accepted", self.accepted);
-        line("  of 1 to 32 rows, each at least", self.of_rows.fewest(1..=32));
-        for number in 1..=7 {
-            line(&format!("refusal {number}"), self.refused.of(number));
-        }
-        line("different", self.different);
+    fn met(&self) -> Vec<Demand> {
+        let refusal = |n| demand(format!("refusal {n}"), self.refused.of(n), FEWEST_OF_AN_ANSWER);
+        let rows = self.of_rows.fewest(1..=32);
+        [
+            vec![demand("tables", self.tables, FEWEST_TABLES)],
+            kinds(KINDS.map(|(kind, _)| kind), &self.of_kind, 0),
+            vec![demand("accepted", self.accepted, FEWEST_OF_AN_ANSWER)],
+            vec![demand("  of 1 to 32 rows, each at least", rows, FEWEST_OF_A_SIZE)],
+            (1..=7).map(refusal).collect(),
+        ]
+        .concat()
     }
 
-    fn demands(&self) -> Vec<Demand> {
-        let mut demands = vec![
-            demand("tables", self.tables, FEWEST_TABLES),
-            demand("tables accepted", self.accepted, FEWEST_OF_AN_ANSWER),
-            demand("accepted with some number of rows", self.of_rows.fewest(1..=32), FEWEST_OF_A_SIZE),
-        ];
-        let refused =
-            |number| demand(format!("refusal {number}"), self.refused.of(number), FEWEST_OF_AN_ANSWER);
-        demands.extend((1..=7).map(refused));
-        demands
-    }
-
-    /// Prints what is amiss, and answers whether nothing is.
+    /// Prints the tally and what is amiss, and answers whether nothing is.
     pub fn is_good(&self) -> bool {
-        is_good(&[(self.different, "tables are different")], self.demands())
+        is_good(&self.met(), &[("different", self.different)])
     }
 }

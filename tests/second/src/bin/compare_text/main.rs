@@ -40,7 +40,6 @@ fn compare_with_the_library(seed: u64) -> bool {
         true
     });
     println!("the library's text of a plan beside the second program's, seed {seed}");
-    tally.print();
     tally.is_good()
 }
 

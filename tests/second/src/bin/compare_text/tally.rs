@@ -1,7 +1,7 @@
 //! What a run of the comparison has met, told from the second program's texts, and whether that
 //! is enough.
 
-use second::met::{demand, is_good, kind_lines, line, name, Counts, Demand};
+use second::met::{demand, is_good, kinds, name, Counts, Demand};
 use second::plan::file::script;
 use second::text::made_up::{Case, KINDS};
 
@@ -86,68 +86,45 @@ impl Tally {
         self.with_8_000_records += usize::from(records >= 8_000);
     }
 
-    pub fn print(&self) {
-        line("plans", self.same + self.different);
-        kind_lines(KINDS.map(|(kind, _)| kind), &self.of_kind);
-        line("accepted", self.accepted);
-        line("  of 1 to 32 rows, each at least", self.of_rows.fewest(1..=32));
-        line("  without a script", self.without_script);
-        line("  with 8,000 records or more", self.with_8_000_records);
-        for number in REFUSALS {
-            line(&format!("refused with {number}"), self.refused.of(number));
-        }
-        line("longer than 65,536 bytes", self.too_long);
-        line("ticks", self.ticks);
-        for who in WHO {
-            line(&format!("  {who} ran"), self.who.of(who));
-        }
-        for mark in MARKS {
-            line(&format!("  mark {mark}"), self.marks.of(mark.to_string()));
-        }
-        line("  a signal ignored", self.ignored);
-        for number in REFUSED_TICKS {
-            line(&format!("ticks refused with {number}"), self.refused_ticks.of(number));
-        }
-        line("tasks with an open job", self.open);
-        line("tasks with 1,000 jobs or more", self.large_totals);
-        line("bytes of the longest text", self.longest_text);
-        line("plans the same", self.same);
-        line("different", self.different);
+    fn met(&self) -> Vec<Demand> {
+        let refusal = |n| demand(format!("refused with {n}"), self.refused.of(n), FEWEST_OF_A_REFUSAL);
+        let rows = self.of_rows.fewest(1..=32);
+        [
+            vec![demand("plans", self.same + self.different, FEWEST_PLANS)],
+            kinds(KINDS.map(|(kind, _)| kind), &self.of_kind, 0),
+            vec![demand("accepted", self.accepted, 0)],
+            vec![demand("  of 1 to 32 rows, each at least", rows, FEWEST_OF_A_SIZE)],
+            vec![demand("  without a script", self.without_script, FEWEST_OF_A_SIZE)],
+            vec![demand("  with 8,000 records or more", self.with_8_000_records, FEWEST_LONG)],
+            REFUSALS.map(refusal).to_vec(),
+            vec![demand("longer than 65,536 bytes", self.too_long, FEWEST_OF_A_REFUSAL)],
+            self.met_in_ticks(),
+            vec![demand("tasks with an open job", self.open, FEWEST_OF_A_WORD)],
+            vec![demand("tasks with 1,000 jobs or more", self.large_totals, FEWEST_LONG / 5)],
+            vec![demand("bytes of the longest text", self.longest_text, 0)],
+            vec![demand("plans the same", self.same, FEWEST_PLANS)],
+        ]
+        .concat()
     }
 
-    /// Everything that must be met, with its name, how often it was and how often it must be.
-    fn demands(&self) -> Vec<Demand> {
-        let mut demands = vec![
-            demand("plans the same", self.same, FEWEST_PLANS),
-            demand("ticks", self.ticks, FEWEST_TICKS),
-            demand("accepted with some number of rows", self.of_rows.fewest(1..=32), FEWEST_OF_A_SIZE),
-            demand("accepted without a script", self.without_script, FEWEST_OF_A_SIZE),
-            demand("accepted with 8,000 records or more", self.with_8_000_records, FEWEST_LONG),
-            demand("longer than 65,536 bytes", self.too_long, FEWEST_OF_A_REFUSAL),
-            demand("ignored signals", self.ignored, FEWEST_OF_A_WORD),
-            demand("tasks with an open job", self.open, FEWEST_OF_A_WORD),
-            demand("tasks with 1,000 jobs or more", self.large_totals, FEWEST_LONG / 5),
-        ];
-        for number in REFUSALS {
-            let name = format!("refused with {number}");
-            demands.push(demand(name, self.refused.of(number), FEWEST_OF_A_REFUSAL));
-        }
-        for number in REFUSED_TICKS {
-            let name = format!("ticks refused with {number}");
-            demands.push(demand(name, self.refused_ticks.of(number), FEWEST_OF_A_WORD));
-        }
-        for who in WHO {
-            demands.push(demand(format!("ticks of {who}"), self.who.of(who), FEWEST_OF_A_WORD));
-        }
-        for mark in MARKS {
-            let count = self.marks.of(mark.to_string());
-            demands.push(demand(format!("marks {mark}"), count, FEWEST_OF_A_WORD));
-        }
-        demands
+    fn met_in_ticks(&self) -> Vec<Demand> {
+        let who = |who| demand(format!("  {who} ran"), self.who.of(who), FEWEST_OF_A_WORD);
+        let mark =
+            |mark: &str| demand(format!("  mark {mark}"), self.marks.of(mark.to_string()), FEWEST_OF_A_WORD);
+        let refusal =
+            |n| demand(format!("ticks refused with {n}"), self.refused_ticks.of(n), FEWEST_OF_A_WORD);
+        [
+            vec![demand("ticks", self.ticks, FEWEST_TICKS)],
+            WHO.map(who).to_vec(),
+            MARKS.map(mark).to_vec(),
+            vec![demand("  a signal ignored", self.ignored, FEWEST_OF_A_WORD)],
+            REFUSED_TICKS.map(refusal).to_vec(),
+        ]
+        .concat()
     }
 
-    /// Prints what is amiss, and answers whether nothing is.
+    /// Prints the tally and what is amiss, and answers whether nothing is.
     pub fn is_good(&self) -> bool {
-        is_good(&[(self.different, "plans are different")], self.demands())
+        is_good(&self.met(), &[("different", self.different)])
     }
 }
