@@ -1,6 +1,6 @@
 //! Tells the linker where the two libraries lie.
 
-#[path = "../tests/second/link_search.rs"]
+#[path = "../include/link_search.rs"]
 mod link_search;
 
 fn main() {

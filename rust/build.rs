@@ -1,12 +1,8 @@
-//! Tells the linker where the library lies: TOLLSALMON_LIB, or the repository's target/staticlib.
+//! Tells the linker where the library lies.
 
-use std::env;
-use std::path::PathBuf;
+#[path = "../include/link_search.rs"]
+mod link_search;
 
 fn main() {
-    let default = || PathBuf::from(env::var("CARGO_MANIFEST_DIR").unwrap()).join("../target/staticlib");
-    let folder = env::var("TOLLSALMON_LIB").map_or_else(|_| default(), PathBuf::from);
-    println!("cargo:rerun-if-env-changed=TOLLSALMON_LIB");
-    println!("cargo:rerun-if-changed={}", folder.join("libtollsalmon.a").display());
-    println!("cargo:rustc-link-search=native={}", folder.display());
+    link_search::link_search("..", &["libtollsalmon.a"]);
 }

@@ -2,6 +2,7 @@
 //! program with one edit each (edits/).
 
 mod edits;
+#[path = "../../include/link_search.rs"]
 mod link_search;
 
 fn main() {
