@@ -25,7 +25,8 @@
 //!
 //! Rows are four numbers, T, D, C and K, the highest priority first; tasks are counted from 1.
 //! Whatever is refused is a [`Refusal`]: a number with a name, a place, what it means and what to
-//! do. Nothing here panics but [`Tick::arrivals`], and a step allocates nothing.
+//! do. A step allocates nothing. What panics: [`Tick::arrivals`] of a task that no mask has, and any
+//! function that is linked with a library of another version, whose refusals have no names here.
 //!
 //! The library lies in the folder that the variable `TOLLSALMON_LIB` names when this package is
 //! built, else in the repository's `target/staticlib`.
