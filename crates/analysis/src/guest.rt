@@ -121,16 +121,16 @@ fn window_begun_by_hypertask(table: &[u32], es: &[u32], i: usize) -> Found
     seek_window(table, es, i, own, numbers::cell(table, 4 * i))
 }
 
-// G(i), or refusal 7 at its task.
+// G(i), or refusal 7 or 19 at its task.
 pub(crate) fn guest_of(table: &[u32], es: &[u32], i: usize) -> Response
     requires { ⌜ (Sound (now table)) × (Offsets (now table) (now es)) × (i < rows (now table)) ⌝ }
     ensures { λ r. ⌜ r ≡ guest (now (table .entry)) i ⌝ }
 {
     let Found::At(a) = window_begun_by_guest(table, es, i) else {
-        return Response::Fails(Refusal::GuestFails(i + 1));
+        return Response::Fails(Refusal::NoGuestWindow(i + 1));
     };
     let Found::At(e) = window_begun_by_hypertask(table, es, i) else {
-        return Response::Fails(Refusal::GuestFails(i + 1));
+        return Response::Fails(Refusal::NoHypertaskWindow(i + 1));
     };
     let before = numbers::less(numbers::cell(table, 4 * i), numbers::cell(es, i));
     Response::Is(numbers::larger(a, numbers::less(e, before)))

@@ -1,4 +1,4 @@
-// The analysis of a table: document 01, "Response equations" and refusals 1 to 7.
+// The analysis of a table: document 01, "Response equations", and refusals 1 to 7 and 19.
 mod checks;
 mod guest;
 mod hypertask;
@@ -14,7 +14,7 @@ ghost use lib.ListN.{length};
 ghost use Rattle.equations.specs.Table.{rows, Sound};
 ghost use Rattle.equations.specs.Analysis.{solved, resultsBy, Analyses};
 
-// R, E and G of each task of a sound table into the lent results, or the first refusal of 5, 6 and 7.
+// R, E and G of each task of a sound table into the lent results, or the first refusal of 5, 6, 7 and 19.
 fn solve(table: &[u32], lent: &mut [u32]) -> Answer
     requires { ⌜ (Sound (now table)) × (3 * rows (now table) ≤ length (now lent)) ⌝ }
     ensures { λ r. ⌜ r ≡ solved (now (table .entry)) ⌝ }

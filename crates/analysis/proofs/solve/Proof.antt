@@ -7,7 +7,7 @@ use lib.ListN.{drop}
 use Rattle.equations.specs.Table.{rows}
 use Rattle.equations.specs.Analysis.{hypertaskCheck, guestCheck}
 use Rattle.equations.specs.declared.Checked.the-variants.{Passed}
-use Rattle.equations.proofs.Checks.{refused-5-or-6, refused-7, accepted}
+use Rattle.equations.proofs.Checks.{refused-5-or-6, refused-7-or-19, accepted}
 use Rattle.analysis.specs.Loops.{Filled, GuestsFilled}
 use Rattle.analysis.proofs.Loops.{offsets, results-are}
 use borrow.Author.Needs.{needs}
@@ -61,7 +61,7 @@ enum-known-r-2 c = search needs
 returns-2 : tie.Need-returns-2
 returns-2 c =
     let s = now (c .before .before .before .before .before .before .before .before .before .before .before .before .before .args .table) in (
-      sym (refused-7 s _ (hypertasks-pass (c .before .before .before .before .before .before)) (sym (c .before .before .before .guests .ensures .0)
+      sym (refused-7-or-19 s _ (hypertasks-pass (c .before .before .before .before .before .before)) (sym (c .before .before .before .guests .ensures .0)
           ∙ c .before .r2 .given .1)),
       refl,
     )

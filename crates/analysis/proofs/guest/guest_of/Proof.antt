@@ -7,7 +7,7 @@ use Rattle.equations.specs.Table.{T}
 use Rattle.equations.specs.Hypertask.{E}
 use Rattle.equations.specs.Guest.{WA, WE}
 use Rattle.equations.specs.declared.Response.the-variants.{Is}
-use Rattle.equations.proofs.Jobs.{guest-7, guest-7-hypertask, guest-is}
+use Rattle.equations.proofs.Jobs.{guest-7, guest-19, guest-is}
 use Rattle.analysis.proofs.Loops.{found-some, found-none}
 use borrow.Author.Needs.{needs}
 use Rattle.analysis.proofs.guest.guest_of.Statement.{statement}
@@ -70,7 +70,7 @@ returns-2 c =
     let a = c .before .before .before .before .before .before .before .before .before in
     let s = now (a .args .table) in
     let i = a .args .i in
-    sym (guest-7-hypertask s i _ (begun-by-guest (c .before .before .before)) (found-none (WE s i) (sym (c .enum-told2 .given .1)
+    sym (guest-19 s i _ (begun-by-guest (c .before .before .before)) (found-none (WE s i) (sym (c .enum-told2 .given .1)
     ∙ c .before .before .window-begun-by-hypertask .ensures)))
 
 -- src/guest.rt:126:53
