@@ -18,3 +18,4 @@ pub mod WellFormed
 pub mod Counts
 pub mod Stages
 pub mod Starts
+pub mod Refused

@@ -49,7 +49,7 @@ starts-right = (
           (
             refl,
             refl,
-            (p7-says, p7-machine, (refl, refl, (refl, refl, (refl, refl, (refl, refl, tt))))),
+            (p7-says, p7-machine, (refl, refl, (refl, refl, (refl, refl, (refl, refl, (refl, refl, (refl, refl, (refl, refl, tt)))))))),
           ),
         ),
       ),

@@ -1,4 +1,5 @@
--- Worked starts: P1 to P11 of document 01 (a start has no 4, so no P12), the answer by number and place, and the machine that is handed back.
+-- Worked starts: P1 to P11 of document 01 (a start has no 4, so no P12) and document 02's 19, the answer by number and place, and the machine that is
+-- handed back.
 -- Assumes nothing.
 use Prim.Native.Nat.{ℕ, _-_}
 use mathlib.Core.Path.{_≡_}
@@ -49,4 +50,8 @@ cases =
     ∷ starts (10 ∷ 10 ∷ 2 ∷ 1 ∷ 20 ∷ 20 ∷ 4 ∷ 2 ∷ []) (row 10 10 2 1 7 ∷ row 20 20 4 2 16 ∷ [])
     ∷ refused (5 ∷ 5 ∷ 1 ∷ 2 ∷ 7 ∷ 7 ∷ 1 ∷ 2 ∷ 7 ∷ 7 ∷ 1 ∷ 2 ∷ []) 6 2
     ∷ refused (10 ∷ 8 ∷ 0 ∷ 2 ∷ []) 2 2
+    -- 19 at the last task, and at task 1 before 7 at task 2; 7 where both windows fail
+    ∷ refused (5 ∷ 5 ∷ 2 ∷ 1 ∷ 8 ∷ 8 ∷ 2 ∷ 1 ∷ []) 19 2
+    ∷ refused (20 ∷ 20 ∷ 4 ∷ 1 ∷ 13 ∷ 13 ∷ 4 ∷ 4 ∷ 17 ∷ 17 ∷ 1 ∷ 5 ∷ []) 19 1
+    ∷ refused (5 ∷ 5 ∷ 1 ∷ 1 ∷ 4 ∷ 4 ∷ 3 ∷ 1 ∷ []) 7 2
     ∷ []

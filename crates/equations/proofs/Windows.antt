@@ -21,12 +21,11 @@ use Rattle.equations.specs.Table.{rows, T, C, K}
 use Rattle.equations.specs.Hypertask.{response, E}
 use Rattle.equations.specs.Guest.{windowSide, WA, WE, guest}
 use Rattle.equations.specs.Analysis.{stopIf, stopAtField, stopAtDeadline, badLength, badField, badDeadline}
-use Rattle.equations.specs.Analysis.{tableCheck, resultsCheck, rowByRow, hypertaskCheck, guestCheck, andThen, solved, analysis}
+use Rattle.equations.specs.Analysis.{tableCheck, resultsCheck, hypertaskCheck, guestCheck, andThen, solved, analysis}
 use Rattle.equations.specs.Solutions.{WindowsReached, NoWA, NoWE, GuestWindowFails, HypertaskWindowFails}
-use Rattle.equations.specs.Cases.{Says, accepts, refuses, says}
+use Rattle.equations.specs.Cases.{refuses, says}
 use Rattle.equations.specs.declared.Response.{Response}
 use Rattle.equations.specs.declared.Response.the-variants.{Is, Fails}
-use Rattle.equations.specs.declared.Checked.{Checked}
 use Rattle.equations.specs.declared.Checked.the-variants.{Passed, Stopped}
 use Rattle.equations.specs.declared.Answer.{Answer}
 use Rattle.equations.specs.declared.Answer.the-variants.{Accepted, Refused}
@@ -152,7 +151,7 @@ refused-by (Accepted n) number place e = let z : _≡_ {A = ℕ} 0 1 = cc in abs
 refused-by (Refused f) number place e = (f, refl, cc, cc)
 
 -- both are at the task of the row whose windows they are about
-task-of-row : (s : List ℕ) (k : ℕ) (f : Refusal) → guest s k ≡ Fails f → placeOf f ≡ k + 1
+pub task-of-row : (s : List ℕ) (k : ℕ) (f : Refusal) → guest s k ≡ Fails f → placeOf f ≡ k + 1
 task-of-row s k f e = ⊎-elim
     (λ (a : (f ≡ NoGuestWindow (k + 1)) × NoWA s (E s) k). ap placeOf (a .0))
     (λ (a : (f ≡ NoHypertaskWindow (k + 1)) × OnlyWA s k). ap placeOf (a .0))

@@ -46,7 +46,7 @@ abbrev pub bitOf : Bool → ℕ
 bitOf true = 1
 bitOf false = 0
 
--- the last eight bytes; a task is at most 32 and a refusal's number at most 18, so the low byte is the number
+-- the last eight bytes; a task is at most 32 and a refusal's number at most 19, so the low byte is the number
 abbrev pub saidOf : Answer → List ℕ
 saidOf (Answer.Taken t) = bytesOf 0 ++ (whoOf (t .ran) ∷ taskOf (t .ran) % 256 ∷ markOf (t .mark) ∷ bitOf (t .ignored) ∷ [])
 saidOf (Answer.Refused r) = bytesOf (placeOf r) ++ (3 ∷ numberOf r % 256 ∷ 0 ∷ 0 ∷ [])

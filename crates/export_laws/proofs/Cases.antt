@@ -60,7 +60,8 @@ unfolding firstWhere up sum largest listOf flat B demand activeSide activePeriod
 functions-right =
     record {
       accepted = (refl, refl);
-      refused = (refl, refl);
+      refused-7 = (refl, refl);
+      refused-19 = (refl, refl);
       starts = (refl, refl);
       started = refl;
       short-start = (refl, refl);

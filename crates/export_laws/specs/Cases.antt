@@ -111,7 +111,8 @@ guestAt clock = clock ∷ 0 ∷ 0 ∷ 0 ∷ 0 ∷ 0 ∷ 0 ∷ 0 ∷ 1 ∷ 1 ∷ 
 pub record FunctionsRight : Type 0 where
   -- 0 and the number of tasks, or number and place
   pub accepted : (numberIn (Accepted 2) ≡ 0) × (placeIn (Accepted 2) ≡ 2)
-  pub refused : (numberIn (Refused (Refusal.GuestFails 1)) ≡ 7) × (placeIn (Refused (Refusal.GuestFails 1)) ≡ 1)
+  pub refused-7 : (numberIn (Refused (Refusal.NoGuestWindow 1)) ≡ 7) × (placeIn (Refused (Refusal.NoGuestWindow 1)) ≡ 1)
+  pub refused-19 : (numberIn (Refused (Refusal.NoHypertaskWindow 2)) ≡ 19) × (placeIn (Refused (Refusal.NoHypertaskWindow 2)) ≡ 2)
   -- a start of P2 into 259 numbers, and into one too few
   pub starts : (numberIn (startSays table 259) ≡ 0) × (placeIn (startSays table 259) ≡ 1)
   pub started : stateStarted table (replicate 259 9) ≡ p2Fresh ++ (9 ∷ [])

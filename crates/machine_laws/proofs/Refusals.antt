@@ -117,7 +117,7 @@ hyper-exactly (Stage.Guest b u) = (λ h. absurd (true≢false (sym h)), λ w. le
 hyper-exactly (Stage.Hyper b l) = (λ h. (b, l, refl), λ w. refl)
 hyper-exactly (Stage.Closed b) = (λ h. absurd (true≢false (sym h)), λ w. let z : _≡_ {A = ℕ} 0 1 = cc in absurd (omega arith))
 
--- what a verdict says of the state and the mask; for a tick 1 to 7 and 13 to 18 are never given
+-- what a verdict says of the state and the mask; for a tick 1 to 7 and 13 to 19 are never given
 abbrev Says : Machine → ℕ → Verdict → Type 0
 Says m mask accepted = NoneApplies m mask
 Says m mask (refused (Refusal.TableLength p)) = ⊥
@@ -126,7 +126,7 @@ Says m mask (refused (Refusal.DeadlineAbovePeriod p)) = ⊥
 Says m mask (refused (Refusal.ResultsShort p)) = ⊥
 Says m mask (refused (Refusal.NoActivePeriod p)) = ⊥
 Says m mask (refused (Refusal.StartTooLate p)) = ⊥
-Says m mask (refused (Refusal.GuestFails p)) = ⊥
+Says m mask (refused (Refusal.NoGuestWindow p)) = ⊥
 Says m mask (refused (Refusal.NotWellFormed p)) = Eight m
 Says m mask (refused (Refusal.ClockAtEnd p)) = Nine m
 Says m mask (refused (Refusal.NoSuchTask p)) = (i : ℕ) × (p ≡ i + 1) × Ten m mask i
@@ -138,6 +138,7 @@ Says m mask (refused (Refusal.BodyPlace p)) = ⊥
 Says m mask (refused (Refusal.BodySize p)) = ⊥
 Says m mask (refused (Refusal.RecordBytes p)) = ⊥
 Says m mask (refused (Refusal.OutputShort p)) = ⊥
+Says m mask (refused (Refusal.NoHypertaskWindow p)) = ⊥
 
 module _ (m : Machine) (mask : ℕ) (long : length (m .rows) ≡ 32) where
   -- the searches of 10 to 12

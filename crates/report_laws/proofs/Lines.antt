@@ -49,15 +49,15 @@ accept-short tasks h = word-short acceptWord (tasks ∷ []) (h, tt)
 pub row-short : (task : ℕ) (numbers : List ℕ) → Counted (task ∷ numbers) → length numbers ≡ 7 → length (rowLine task numbers) ≤ 168
 row-short task numbers h e = simp length-append (omega (arith, digits-short task (h .0), spaced-short numbers (h .1)))
 
--- there are 18 refusals
-number-small : (refusal : Refusal) → numberOf refusal ≤ 18
+-- no refusal has a number above 19
+number-small : (refusal : Refusal) → numberOf refusal ≤ 19
 number-small (Refusal.TableLength p) = omega arith
 number-small (Refusal.FieldRange p) = omega arith
 number-small (Refusal.DeadlineAbovePeriod p) = omega arith
 number-small (Refusal.ResultsShort p) = omega arith
 number-small (Refusal.NoActivePeriod p) = omega arith
 number-small (Refusal.StartTooLate p) = omega arith
-number-small (Refusal.GuestFails p) = omega arith
+number-small (Refusal.NoGuestWindow p) = omega arith
 number-small (Refusal.NotWellFormed p) = omega arith
 number-small (Refusal.ClockAtEnd p) = omega arith
 number-small (Refusal.NoSuchTask p) = omega arith
@@ -69,6 +69,7 @@ number-small (Refusal.BodyPlace p) = omega arith
 number-small (Refusal.BodySize p) = omega arith
 number-small (Refusal.RecordBytes p) = omega arith
 number-small (Refusal.OutputShort p) = omega arith
+number-small (Refusal.NoHypertaskWindow p) = omega arith
 
 pub refuse-short : (refusal : Refusal) → placeOf refusal ≤ lastPlace → length (refuseLine refusal) ≤ 49
 refuse-short refusal h = word-short refuseWord (numberOf refusal ∷ placeOf refusal ∷ []) (omega (arith, number-small refusal), (h, tt))

@@ -18,7 +18,8 @@ use Rattle.equations.specs.Analysis.{stopIf, stopAtField, stopAtDeadline, badLe
 use Rattle.equations.specs.declared.Checked.{Checked}
 use Rattle.equations.specs.declared.Checked.the-variants.{Passed, Stopped}
 use Rattle.equations.specs.declared.Answer.the-variants.{Refused}
-use Rattle.equations.proofs.Refused.{NoActive, LateJob, FirstFailing, response-fails, guest-fails, refused-from-5}
+use Rattle.equations.proofs.Refused.{NoActive, LateJob, FirstFailing, response-fails, refused-from-5}
+use Rattle.equations.proofs.Windows.{task-of-row}
 use Rattle.start.specs.Start.{startAnswer}
 use Rattle.plan.specs.Refuse.{refuseIf, refuseAt}
 use Rattle.plan.specs.PlanFile.{count, sectionsOf, bodyOf, scriptKind, wrongLength, wrongCount, firstWrongRecord, entriesRefusal, readRefusal}
@@ -93,5 +94,5 @@ module _ (s : List ℕ) where
           (λ (x : (r ≡ Refusal.StartTooLate (w .row + 1)) × LateJob s (w .row)). rw (x .0) (omega (arith, w .below)))
           (response-fails s (w .row) r (w .fails)))
           (λ (w : (hypertaskCheck s ≡ Passed) × FirstFailing (guest s) 0 (rows s) r).
-          rw (guest-fails s (w .1 .row) r (w .1 .fails) .0) (omega (arith, w .1 .below)))
+          omega (arith, task-of-row s (w .1 .row) r (w .1 .fails), w .1 .below))
           (refused-from-5 s r q)

@@ -35,5 +35,5 @@ unfolding firstWhere up sum largest listOf flat B demand activeSide activePeriod
     hypertaskOutputsOf jobsOpen digitsIn digitsOf spaced rowLines ticksFrom taskLines tickLines tableText textOf
 texts-right =
     right-both refusedPlans (refusedTables ++ runs) (refl, (refl, (refl, (refl, (refl, (refl, (refl, (refl, (refl, (refl, tt))))))))))
-    (right-both refusedTables runs (refl, (refl, (refl, (refl, (refl, (refl, tt))))))
+    (right-both refusedTables runs (refl, (refl, (refl, (refl, (refl, (refl, (refl, tt)))))))
     (refl, (refl, (refl, (refl, (refl, (refl, (refl, tt))))))))

@@ -93,6 +93,8 @@ refusedTables =
     ∷ case (planFile (row 10 11 1 1) []) ("REFUSE 3 1" ∷ [])
     ∷ case (planFile (row 5 5 1 2 ++ row 7 7 1 2 ++ row 7 7 1 2) []) ("REFUSE 6 2" ∷ [])
     ∷ case (planFile (row 10 8 0 2) []) ("REFUSE 2 2" ∷ [])
+    -- document 02, order 1: the window begun by the task's own hypertask is above T
+    ∷ case (planFile (row 5 5 2 1 ++ row 8 8 2 1) (arrive 3 ++ quiet 7)) ("REFUSE 19 2" ∷ [])
     ∷ []
 
 -- REFUSED TICKS, on P3: "the next record comes at that clock", and a refused arrival isn't counted

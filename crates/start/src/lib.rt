@@ -1,4 +1,4 @@
-// A fresh machine from a table: document 01, "Starting a machine checks 1, 2, 3, 5, 6, 7".
+// A fresh machine from a table: document 01, "Starting a machine checks 1, 2, 3, 5, 6, 7", and 19 right after 7.
 use equations::Answer;
 use machine::Machine;
 use machine::Row;

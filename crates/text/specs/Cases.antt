@@ -41,7 +41,8 @@ cases =
     ∷ case (tickLine 1099511627775 (took (Ran.Hypertask 20) Mark.Output false)) "1099511627775 H20 O 0\n"
     -- a refused tick, and a refused plan or table
     ∷ case (tickLine 9 (Answer.Refused (Refusal.ArrivalTooSoon 1))) "9 REFUSE 11 1\n"
-    ∷ case (refuseLine (Refusal.GuestFails 1)) "REFUSE 7 1\n"
+    ∷ case (refuseLine (Refusal.NoGuestWindow 1)) "REFUSE 7 1\n"
+    ∷ case (refuseLine (Refusal.NoHypertaskWindow 2)) "REFUSE 19 2\n"
     ∷ case (refuseLine (Refusal.FileLength 65537)) "REFUSE 13 65537\n"
     -- task, jobs arrived, guest outputs, hypertask outputs, jobs still open
     ∷ case (taskLine 1 1 0 1 0) "TASK 1 1 0 1 0\n"
