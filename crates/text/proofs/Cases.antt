@@ -6,4 +6,4 @@ use Rattle.text.specs.Cases.{Right, cases}
 pub lines-right : Right cases
 unfolding digitsIn digitsOf spaced
 lines-right =
-    (refl, (refl, (refl, (refl, (refl, (refl, (refl, (refl, (refl, (refl, (refl, (refl, (refl, (refl, (refl, tt)))))))))))))))
+    (refl, (refl, (refl, (refl, (refl, (refl, (refl, (refl, (refl, (refl, (refl, (refl, (refl, (refl, (refl, (refl, tt))))))))))))))))
