@@ -34,7 +34,7 @@ pub fn analyse(table: &[u32], results: &mut [u32]) -> Answer {
     }
     let mut guests = [0; MOST_TASKS];
     for i in 0..tasks {
-        guests[i] = guest_response(rows, &offsets, i).ok_or(refusal(7, i + 1))?;
+        guests[i] = guest_response(rows, &offsets, i)?;
     }
     for (i, result) in results.chunks_exact_mut(3).take(tasks).enumerate() {
         result[0] = (rows[i].deadline - offsets[i]) as u32;
@@ -107,13 +107,15 @@ fn hypertask_response(rows: &[Row], i: usize) -> Result<u64, Refusal> {
     Ok(largest)
 }
 
-/// G of row i, where the guest passes.
-fn guest_response(rows: &[Row], offsets: &[u64; MOST_TASKS], i: usize) -> Option<u64> {
+/// G of row i, or refusal 7 or 19.
+fn guest_response(rows: &[Row], offsets: &[u64; MOST_TASKS], i: usize) -> Result<u64, Refusal> {
     let own = rows[i];
-    let alone = least(1, offsets[i], |w| own.guest + interference(rows, offsets, i, w))?;
+    let alone = least(1, offsets[i], |w| own.guest + interference(rows, offsets, i, w));
+    let alone = alone.ok_or(refusal(7, i + 1))?;
     let both = own.guest + own.hyper;
-    let enforced = least(1, own.period, |w| both + interference(rows, offsets, i, w))?;
-    Some(alone.max(enforced.saturating_sub(own.period - offsets[i])))
+    let enforced = least(1, own.period, |w| both + interference(rows, offsets, i, w));
+    let enforced = enforced.ok_or(refusal(19, i + 1))?;
+    Ok(alone.max(enforced.saturating_sub(own.period - offsets[i])))
 }
 
 /// F: hypertasks of the rows below, and the larger request bound of each row above.
