@@ -11,16 +11,15 @@ use native.Mathlib.Numerals.{add-one}
 use native.Mathlib.Omega.{arith}
 use borrow.Author.Tests.{ltb-false}
 use lib.Dec.{ltb}
-use lib.ListN.{length}
-use Rattle.least.specs.Search.{firstWhere, first, Least}
+use Rattle.least.specs.Search.{first, Least}
 use Rattle.least.proofs.Least.{found, least-same}
 use Rattle.refusals.specs.declared.Refusal.{Refusal}
-use Rattle.refusals.specs.declared.Refusal.the-variants.{TableLength, NoActivePeriod, StartTooLate, NoGuestWindow, NoHypertaskWindow}
+use Rattle.refusals.specs.declared.Refusal.the-variants.{NoActivePeriod, StartTooLate, NoGuestWindow, NoHypertaskWindow}
 use Rattle.refusals.specs.Refusals.{numberOf, placeOf}
 use Rattle.equations.specs.Table.{rows, T, C, K}
 use Rattle.equations.specs.Hypertask.{response, E}
 use Rattle.equations.specs.Guest.{windowSide, WA, WE, guest}
-use Rattle.equations.specs.Analysis.{stopIf, stopAtField, stopAtDeadline, badLength, badField, badDeadline}
+use Rattle.equations.specs.Analysis.{stopIf}
 use Rattle.equations.specs.Analysis.{tableCheck, resultsCheck, hypertaskCheck, guestCheck, andThen, solved, analysis}
 use Rattle.equations.specs.Solutions.{WindowsReached, NoWA, NoWE, GuestWindowFails, HypertaskWindowFails}
 use Rattle.equations.specs.Cases.{refuses, says}
@@ -30,22 +29,15 @@ use Rattle.equations.specs.declared.Checked.the-variants.{Passed, Stoppe
 use Rattle.equations.specs.declared.Answer.{Answer}
 use Rattle.equations.specs.declared.Answer.the-variants.{Accepted, Refused}
 use Rattle.equations.proofs.Jobs.{guest-7, guest-19, window-same}
-use Rattle.equations.proofs.Checks.{stopped-passed, results-fit, entered, refused-7-or-19, Rowwise, rows-start, rows-next, rows-stop}
+use Rattle.equations.proofs.Checks.{stopped-passed, stopped-inj, table-stopped, results-fit, entered, refused-7-or-19, Rowwise, rows-start, rows-next, rows-stop}
 use Rattle.equations.proofs.Exactly.{WA-found, WA-finds, R, G, table-sound, table-complete, hypertasks-sound, hypertasks-complete}
 use Rattle.equations.proofs.Exactly.{pass-numbers, guest-sound, guest-complete, stop-if-passed}
-use Rattle.equations.proofs.Refused.{NoActive, LateJob, OnlyWA, FirstFailing, stopped-inj, response-fails, guest-fails, and-then-refused, refused-from-5}
+use Rattle.equations.proofs.Refused.{NoActive, LateJob, OnlyWA, FirstFailing, response-fails, guest-fails, and-then-refused, refused-from-5}
 
 -- ## A refusal past 6 comes from the windows
 
 table-stops : (s : List ℕ) (f : Refusal) → tableCheck s ≡ Stopped f → numberOf f ≤ 3
-unfolding tableCheck
-table-stops s f e = go (badLength s) (firstWhere (badField s) 0 (length s)) (firstWhere (badDeadline s) 0 (rows s)) e
-  where
-    go : (b : Bool) (o p : Option ℕ) → stopIf b (TableLength (length s)) (stopAtField o (stopAtDeadline p Passed)) ≡ Stopped f → numberOf f ≤ 3
-    go true o p q = rw (← stopped-inj _ _ q) (omega arith)
-    go false (some k) p q = rw (← stopped-inj _ _ q) (omega arith)
-    go false none (some j) q = rw (← stopped-inj _ _ q) (omega arith)
-    go false none none q = absurd (stopped-passed f (sym q))
+table-stops s = table-stopped s (λ (f : Refusal). numberOf f ≤ 3) (omega arith) (λ k e. omega arith) (λ j e. omega arith)
 
 results-stop : (s : List ℕ) (lent : ℕ) (f : Refusal) → resultsCheck s lent ≡ Stopped f → numberOf f ≤ 4
 unfolding resultsCheck
@@ -78,7 +70,8 @@ from-windows s lent f late e = shape (and-then-refused (tableCheck s) _ f e)
         (λ (w : FirstFailing (response s) 0 (rows s) f). absurd (lt-irrefl 0 (omega (arith, response-stops s (w .row) f (w .fails)))))
         (λ (w : (hypertaskCheck s ≡ Passed) × FirstFailing (guest s) 0 (rows s) f). record { shape = a; room = b; hypertasks = w .0; first = w .1 })
 
-    room : tableCheck s ≡ Passed → (resultsCheck s lent ≡ Stopped f) ⊎ ((resultsCheck s lent ≡ Passed) × (solved s ≡ Refused f)) → FromWindows s lent f
+    room : tableCheck s ≡ Passed → (resultsCheck s lent ≡ Stopped f) ⊎ ((resultsCheck s lent ≡ Passed) × (solved s ≡ Refused f))
+        → FromWindows s lent f
     room a = ⊎-elim
         (λ (c : resultsCheck s lent ≡ Stopped f). absurd (lt-irrefl 0 (omega (arith, results-stop s lent f c))))
         (λ (c : (resultsCheck s lent ≡ Passed) × (solved s ≡ Refused f)).
@@ -124,7 +117,8 @@ module _ (s : List ℕ) (r e g : ℕ → ℕ) (i : ℕ) (w : WindowsReached s r 
   same-side own = window-same s e (E s) i own (λ j b. offsets j (omega arith))
 
   -- where no window is within its limit, none is found
-  window-missing : (own last : ℕ) → ((v : ℕ) → 1 ≤ v → v ≤ last → v ≡ windowSide s e i own v → ⊥) → first (windowSide s (E s) i own) 1 last ≡ none
+  window-missing : (own last : ℕ) → ((v : ℕ) → 1 ≤ v → v ≤ last → v ≡ windowSide s e i own v → ⊥)
+      → first (windowSide s (E s) i own) 1 last ≡ none
   window-missing own last h = by (first (windowSide s (E s) i own) 1 last) refl
     where
       by : (o : Option ℕ) → first (windowSide s (E s) i own) 1 last ≡ o → o ≡ none
@@ -146,7 +140,8 @@ module _ (s : List ℕ) (r e g : ℕ → ℕ) (i : ℕ) (w : WindowsReached s r 
 
 -- ## By number and place
 
-refused-by : (a : Answer) (number place : ℕ) → says a ≡ refuses number place → (f : Refusal) × (a ≡ Refused f) × (numberOf f ≡ number) × (placeOf f ≡ place)
+refused-by : (a : Answer) (number place : ℕ) → says a ≡ refuses number place
+    → (f : Refusal) × (a ≡ Refused f) × (numberOf f ≡ number) × (placeOf f ≡ place)
 refused-by (Accepted n) number place e = let z : _≡_ {A = ℕ} 0 1 = cc in absurd (lt-irrefl 0 (omega arith))
 refused-by (Refused f) number place e = (f, refl, cc, cc)
 
@@ -195,10 +190,11 @@ refused-7-sound s lent i q = (
 
 refused-7-complete : (s : List ℕ) (lent i : ℕ) → 3 * rows s ≤ lent → GuestWindowFails s i → says (analysis s lent) ≡ refuses 7 (i + 1)
 refused-7-complete s lent i h p =
-    let no = WA-missing s (p .r) (p .e) (p .g) i (p .reached) (p .no-window) in
-    ap says (reached-refused s (p .r) (p .e) (p .g) i (p .reached) lent _ h (guest-7 s i no))
+    let missing = WA-missing s (p .r) (p .e) (p .g) i (p .reached) (p .no-window) in
+    ap says (reached-refused s (p .r) (p .e) (p .g) i (p .reached) lent _ h (guest-7 s i missing))
 
-pub refused-7-exactly : (s : List ℕ) (lent i : ℕ) → (says (analysis s lent) ≡ refuses 7 (i + 1)) ↔ ((3 * rows s ≤ lent) × GuestWindowFails s i)
+pub refused-7-exactly : (s : List ℕ) (lent i : ℕ)
+    → (says (analysis s lent) ≡ refuses 7 (i + 1)) ↔ ((3 * rows s ≤ lent) × GuestWindowFails s i)
 refused-7-exactly s lent i = (refused-7-sound s lent i, λ p. refused-7-complete s lent i (p .0) (p .1))
 
 -- ## "19 is the second, checked right after 7 for the same task"
@@ -229,8 +225,9 @@ refused-19-sound s lent i q = (
 refused-19-complete : (s : List ℕ) (lent i : ℕ) → 3 * rows s ≤ lent → HypertaskWindowFails s i → says (analysis s lent) ≡ refuses 19 (i + 1)
 refused-19-complete s lent i h p =
     let there = WA-there s (p .r) (p .e) (p .g) i (p .reached) (p .wa) (p .begun-by-guest) (p .wa-within) in
-    let no = WE-missing s (p .r) (p .e) (p .g) i (p .reached) (p .no-window) in
-    ap says (reached-refused s (p .r) (p .e) (p .g) i (p .reached) lent _ h (guest-19 s i (p .wa) there no))
+    let missing = WE-missing s (p .r) (p .e) (p .g) i (p .reached) (p .no-window) in
+    ap says (reached-refused s (p .r) (p .e) (p .g) i (p .reached) lent _ h (guest-19 s i (p .wa) there missing))
 
-pub refused-19-exactly : (s : List ℕ) (lent i : ℕ) → (says (analysis s lent) ≡ refuses 19 (i + 1)) ↔ ((3 * rows s ≤ lent) × HypertaskWindowFails s i)
+pub refused-19-exactly : (s : List ℕ) (lent i : ℕ)
+    → (says (analysis s lent) ≡ refuses 19 (i + 1)) ↔ ((3 * rows s ≤ lent) × HypertaskWindowFails s i)
 refused-19-exactly s lent i = (refused-19-sound s lent i, λ p. refused-19-complete s lent i (p .0) (p .1))

@@ -7,18 +7,18 @@ use mathlib.Core.Option.{Option, none, some}
 use Prim.Native.Nat.{ℕ, _+_, _/_, _≤_, _<_}
 use native.Mathlib.Omega.{arith}
 use lib.ListN.{length}
-use Rattle.least.specs.Search.{firstWhere}
 use Rattle.least.proofs.Where.{where-some}
 use Rattle.refusals.specs.declared.Refusal.{Refusal}
 use Rattle.refusals.specs.Refusals.{placeOf}
 use Rattle.equations.specs.Table.{rows}
 use Rattle.equations.specs.Hypertask.{response}
 use Rattle.equations.specs.Guest.{guest}
-use Rattle.equations.specs.Analysis.{stopIf, stopAtField, stopAtDeadline, badLength, badField, badDeadline, tableCheck, hypertaskCheck, andThen, solved}
+use Rattle.equations.specs.Analysis.{badField, badDeadline, tableCheck, hypertaskCheck, andThen, solved}
 use Rattle.equations.specs.declared.Checked.{Checked}
 use Rattle.equations.specs.declared.Checked.the-variants.{Passed, Stopped}
 use Rattle.equations.specs.declared.Answer.the-variants.{Refused}
 use Rattle.equations.proofs.Refused.{NoActive, LateJob, FirstFailing, response-fails, refused-from-5}
+use Rattle.equations.proofs.Checks.{table-stopped}
 use Rattle.equations.proofs.Windows.{task-of-row}
 use Rattle.start.specs.Start.{startAnswer}
 use Rattle.plan.specs.Refuse.{refuseIf, refuseAt}
@@ -70,17 +70,9 @@ module _ (f : List ℕ) where
 
 module _ (s : List ℕ) where
   check-place : (r : Refusal) → tableCheck s ≡ Stopped r → placeOf r ≤ length s
-  unfolding tableCheck
-  check-place r e = go (badLength s) (firstWhere (badField s) 0 (length s)) refl (firstWhere (badDeadline s) 0 (rows s)) refl e
-    where
-      go : (b : Bool) (o : Option ℕ) → firstWhere (badField s) 0 (length s) ≡ o → (p : Option ℕ) → firstWhere (badDeadline s) 0 (rows s) ≡ p
-          → stopIf b (Refusal.TableLength (length s)) (stopAtField o (stopAtDeadline p Passed)) ≡ Stopped r → placeOf r ≤ length s
-      go true o x p y q = let z : Refusal.TableLength (length s) ≡ r = cc in rw (← z) (omega arith)
-      go false (some k) x p y q =
-          let z : Refusal.FieldRange k ≡ r = cc in rw (← z) (omega (arith, where-some (badField s) (length s) 0 k x .below))
-      go false none x (some j) y q =
-          let z : Refusal.DeadlineAbovePeriod (j + 1) ≡ r = cc in rw (← z) (omega (arith, where-some (badDeadline s) (rows s) 0 j y .below))
-      go false none x none y q = let z : _≡_ {A = ℕ} 0 1 = cc in absurd (omega arith)
+  check-place = table-stopped s (λ (r : Refusal). placeOf r ≤ length s) (omega arith)
+      (λ k e. omega (arith, where-some (badField s) (length s) 0 k e .below))
+      (λ j e. omega (arith, where-some (badDeadline s) (rows s) 0 j e .below))
 
   pub start-place : (r : Refusal) → startAnswer s ≡ Refused r → placeOf r ≤ length s
   unfolding startAnswer
