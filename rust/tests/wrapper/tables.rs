@@ -1,4 +1,4 @@
-//! Document 01's cases.
+//! Document 01's cases, and tables that only one of a guest's two windows refuses.
 
 use crate::refusal;
 use tollsalmon::{check_table, Machine, Response};
