@@ -15,9 +15,9 @@
 #include <stddef.h>
 #include <stdint.h>
 
-#define TOLLSALMON_VERSION "0.2.0"
+#define TOLLSALMON_VERSION "0.3.0"
 #define TOLLSALMON_VERSION_MAJOR 0
-#define TOLLSALMON_VERSION_MINOR 2
+#define TOLLSALMON_VERSION_MINOR 3
 #define TOLLSALMON_VERSION_PATCH 0
 
 #ifdef __cplusplus
@@ -92,7 +92,7 @@ enum tollsalmon_refusal {
     TOLLSALMON_RESULTS_SHORT = 4,
     TOLLSALMON_NO_ACTIVE_PERIOD = 5,
     TOLLSALMON_START_TOO_LATE = 6,
-    TOLLSALMON_GUEST_FAILS = 7,
+    TOLLSALMON_NO_GUEST_WINDOW = 7,
     TOLLSALMON_NOT_WELL_FORMED = 8,
     TOLLSALMON_CLOCK_AT_END = 9,
     TOLLSALMON_NO_SUCH_TASK = 10,
@@ -103,7 +103,8 @@ enum tollsalmon_refusal {
     TOLLSALMON_BODY_PLACE = 15,
     TOLLSALMON_BODY_SIZE = 16,
     TOLLSALMON_RECORD_BYTES = 17,
-    TOLLSALMON_OUTPUT_SHORT = 18
+    TOLLSALMON_OUTPUT_SHORT = 18,
+    TOLLSALMON_NO_HYPERTASK_WINDOW = 19
 };
 
 /* What a number means, in a few words. */
@@ -117,7 +118,7 @@ static inline const char *tollsalmon_words(uint32_t number)
     case TOLLSALMON_RESULTS_SHORT: return "too little room was lent for the results";
     case TOLLSALMON_NO_ACTIVE_PERIOD: return "hypertasks alone overload the processor";
     case TOLLSALMON_START_TOO_LATE: return "the hypertask can end after its deadline";
-    case TOLLSALMON_GUEST_FAILS: return "the guest can't have its ticks in time";
+    case TOLLSALMON_NO_GUEST_WINDOW: return "the guest can't have its ticks before its enforcement instant";
     case TOLLSALMON_NOT_WELL_FORMED: return "the machine's state is damaged or can't be read";
     case TOLLSALMON_CLOCK_AT_END: return "the clock has reached 2^40";
     case TOLLSALMON_NO_SUCH_TASK: return "the mask names a task that isn't in the table";
@@ -129,16 +130,19 @@ static inline const char *tollsalmon_words(uint32_t number)
     case TOLLSALMON_BODY_SIZE: return "a body isn't in whole rows or records, or is empty";
     case TOLLSALMON_RECORD_BYTES: return "an early mark above 1 or a spare byte that isn't 0";
     case TOLLSALMON_OUTPUT_SHORT: return "too little room was lent for what is written";
+    case TOLLSALMON_NO_HYPERTASK_WINDOW: return "after the task's own hypertask the guest can't have its ticks within the period";
     default: return "no such refusal";
     }
 }
 /* end of refusals.txt */
 
-/* R, E, G of each task to the front of results, and the number of tasks in *place. Refusals: 1, 2, 3, 4, 5, 6, 7. */
+/* R, E, G of each task to the front of results, and the number of tasks in *place. Refusals, in the order in which they are looked at:
+   1, 2, 3, 4, then 5 and 6 row by row, then 7 and 19 row by row. */
 uint32_t tollsalmon_analyse(const uint32_t *table, size_t table_len, uint32_t *results, size_t results_len, uint64_t *place);
 
 /* A fresh machine to the front of state, and the number of tasks in *place. Refusals: 18 (place TOLLSALMON_STATE, state too short and
-   untouched); 1, 2, 3, 5, 6, 7, and then state is the machine with no rows, which answers 8 to every tick. */
+   untouched); 1, 2, 3, 5, 6, 7, 19 in tollsalmon_analyse's order, and then state is the machine with no rows, which answers 8 to every
+   tick. */
 uint32_t tollsalmon_start(const uint32_t *table, size_t table_len, uint64_t *state, size_t state_len, uint64_t *place);
 
 /* One tick: bit 0 of mask is an arrival of task 1; signal is 0 for none, else the number that a guest signalled; early is 1 where the

@@ -212,7 +212,13 @@ every_plan() {
 
 refusals() {
   try "$at/tollsalmon" run "$at/plans/refused-table.plan"
-  expect "a refused table in words" 1 any "tollsalmon: refusal 7, task 1: the guest can't have its ticks in time" "what to do: shorten"
+  expect "a refused table in words" 1 any "tollsalmon: refusal 7, task 1: the guest can't have its ticks before its enforcement instant" \
+    "what to do: shorten this C, " ", or lengthen this D (with its T)"
+  echo "REFUSE 19 2" >"$room/hypertask.out"
+  try "$at/tollsalmon" run "$at/plans/refused-hypertask.plan"
+  expect "a table refused for a hypertask, in words" 1 "$room/hypertask.out" \
+    "tollsalmon: refusal 19, task 2: after the task's own hypertask the guest can't have its ticks within the period" \
+    "what to do: shorten this K, " ", or lengthen this T"
   try "$at/tollsalmon" run "$at/plans/damaged-record.plan"
   expect "a damaged record in words" 1 any "refusal 17, record 5 (from 0): an early mark above 1"
   echo "REFUSE 13 0" >"$room/empty.out"
@@ -233,6 +239,8 @@ text_plans() {
   expect "a plan written as text" 0 "$example.out"
   try "$at/tollsalmon" run - <"$at/plans/refused-table.txt"
   expect "a refused table written as text" 1 "$at/plans/refused-table.out" "refusal 7, task 1" "read as a plan written as text"
+  try "$at/tollsalmon" run "$at/plans/refused-hypertask.txt"
+  expect "a table refused for a hypertask, written as text" 1 "$at/plans/refused-hypertask.out" "refusal 19, task 2" "written as text"
   printf 'rows\n10 8 3\n' >"$room/nonsense.txt"
   try "$at/tollsalmon" run "$room/nonsense.txt"
   expect "nonsense written as text" 1 $nothing "line 2" "was read as a plan written as text"

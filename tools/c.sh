@@ -58,6 +58,11 @@ memory() {
   "$room/stack"
 }
 
+words() {
+  build words tests/c/words.c
+  "$room/words"
+}
+
 # Calls from several threads share nothing where the library has nothing to share: no data that can change.
 symbols() {
   nm "$prefix/lib/libtollsalmon.a" >"$room/symbols"
@@ -77,4 +82,5 @@ example
 readme
 versions
 memory
+words
 symbols

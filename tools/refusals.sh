@@ -10,11 +10,11 @@ cd "$(dirname "$0")/.."
 for_c() {
   awk -F'|' '
     /^#/ { next }
-    { name = $2; gsub(/[A-Z]/, "_&", name); names[++n] = "TOLLSALMON" toupper(name); words[n] = $4 }
+    { name = $2; gsub(/[A-Z]/, "_&", name); numbers[++n] = $1; names[n] = "TOLLSALMON" toupper(name); words[n] = $4 }
     END {
       print "enum tollsalmon_refusal {"
       print "    TOLLSALMON_ACCEPTED = 0,"
-      for (i = 1; i <= n; i++) printf "    %s = %d%s\n", names[i], i, i < n ? "," : ""
+      for (i = 1; i <= n; i++) printf "    %s = %d%s\n", names[i], numbers[i], i < n ? "," : ""
       print "};\n"
       print "/* What a number means, in a few words. */"
       print "static inline const char *tollsalmon_words(uint32_t number)\n{\n    switch (number) {"

@@ -84,7 +84,7 @@ impl Machine {
     ///
     /// # Errors
     ///
-    /// Refusals 1, 2, 3, 5, 6 and 7, as of [`check_table`](crate::check_table).
+    /// Refusals 1, 2, 3, 5, 6, 7 and 19, as of [`check_table`](crate::check_table).
     pub fn start(table: &[u32]) -> Result<Machine, Refusal> {
         let mut numbers = [0; NUMBERS];
         library::start(table, &mut numbers)?;

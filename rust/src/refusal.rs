@@ -16,8 +16,11 @@ const ADVICE: usize = 4;
 /// use tollsalmon::{check_table, Name};
 ///
 /// let refusal = check_table(&[10, 8, 7, 2]).unwrap_err();
-/// assert_eq!(refusal.name(), Name::GuestFails);
-/// assert_eq!(Name::GuestFails as u32, 7);
+/// assert_eq!(refusal.name(), Name::NoGuestWindow); // its C is too long
+/// assert_eq!(Name::NoGuestWindow as u32, 7);
+/// let refusal = check_table(&[15, 15, 5, 1, 20, 20, 6, 4]).unwrap_err();
+/// assert_eq!(refusal.name(), Name::NoHypertaskWindow); // its K is too long
+/// assert!(check_table(&[15, 15, 5, 1, 20, 20, 6, 3]).is_ok());
 /// ```
 #[derive(Clone, Copy, Debug, PartialEq, Eq, Hash)]
 #[non_exhaustive]
@@ -34,8 +37,8 @@ pub enum Name {
     NoActivePeriod = 5,
     /// Of a table: a hypertask that can end too late.
     StartTooLate = 6,
-    /// Of a table: a guest that can be starved.
-    GuestFails = 7,
+    /// Of a table: a guest that can't have its ticks before its enforcement instant.
+    NoGuestWindow = 7,
     /// Of a tick: the machine's numbers, whatever the tick is.
     NotWellFormed = 8,
     /// Of a tick: the clock at its end.
@@ -58,9 +61,11 @@ pub enum Name {
     RecordBytes = 17,
     /// Of the C interface alone: the functions here lend enough.
     OutputShort = 18,
+    /// Of a table: a guest that can't have its ticks within the period after its task's own hypertask.
+    NoHypertaskWindow = 19,
 }
 
-const NAMES: [Name; 18] = {
+const NAMES: [Name; 19] = {
     use Name::*;
     [
         TableLength,
@@ -69,7 +74,7 @@ const NAMES: [Name; 18] = {
         ResultsShort,
         NoActivePeriod,
         StartTooLate,
-        GuestFails,
+        NoGuestWindow,
         NotWellFormed,
         ClockAtEnd,
         NoSuchTask,
@@ -81,6 +86,7 @@ const NAMES: [Name; 18] = {
         BodySize,
         RecordBytes,
         OutputShort,
+        NoHypertaskWindow,
     ]
 };
 
@@ -99,7 +105,7 @@ impl Name {
 /// use tollsalmon::Machine;
 ///
 /// let refusal = Machine::start(&[10, 8, 7, 2]).unwrap_err();
-/// let words = "refusal 7, task 1: the guest can't have its ticks in time";
+/// let words = "refusal 7, task 1: the guest can't have its ticks before its enforcement instant";
 /// assert_eq!(refusal.to_string(), words);
 /// ```
 #[derive(Clone, Copy, Debug, PartialEq, Eq, Hash)]
@@ -117,7 +123,7 @@ impl Refusal {
         Refusal { name, place }
     }
 
-    /// Its number, from 1 to 18.
+    /// Its number, which is its name's.
     ///
     /// ```
     /// assert_eq!(tollsalmon::check_table(&[]).unwrap_err().number(), 1);

@@ -45,7 +45,7 @@ pub struct Response {
 ///
 /// # Errors
 ///
-/// Refusals 1, 2, 3, 5, 6 and 7.
+/// Refusals 1, 2, 3, 5, 6, 7 and 19: 5 and 6 row by row, then 7 and 19 row by row.
 pub fn check_table(table: &[u32]) -> Result<Vec<Response>, Refusal> {
     let mut results = [[0; RESULT]; MOST_TASKS];
     let tasks = library::analyse(table, results.as_flattened_mut())?;

@@ -19,8 +19,8 @@ const LONGEST_TEXT: usize = 655_360;
 ///
 /// # Errors
 ///
-/// Refusals 13 to 17 of the file, and 2, 3, 5, 6 and 7 of its table. A tick that is refused is a
-/// line of the text.
+/// Refusals 13 to 17 of the file, and 2, 3, 5, 6, 7 and 19 of its table. A tick that is refused is
+/// a line of the text.
 pub fn run_to_text(file: &[u8]) -> Result<String, Refusal> {
     let mut text = vec![0; LONGEST_TEXT];
     let length = library::report(file, &mut text);

@@ -1,5 +1,5 @@
 /* What every function leaves of the memory that it is lent, byte by byte: on each refusal, with too little room of every size, with a null
-   pointer of length 0, and where it does what it is asked. The answers are document 01's, by hand. */
+   pointer of length 0, and where it does what it is asked. The answers are those of documents 01 and 02, by hand. */
 #include "memory.h"
 
 #define COUNT(array) (sizeof(array) / sizeof((array)[0]))
@@ -114,10 +114,14 @@ static const struct {
     {"P7: no active period", {5, 5, 1, 6}, 4, TOLLSALMON_NO_ACTIVE_PERIOD, 1},
     {"P6: a hypertask too late", {5, 2, 1, 3}, 4, TOLLSALMON_START_TOO_LATE, 1},
     {"P10: the second too late", {5, 5, 1, 2, 7, 7, 1, 2, 7, 7, 1, 2}, 12, TOLLSALMON_START_TOO_LATE, 2},
-    {"P4: a guest fails", {10, 8, 7, 2}, 4, TOLLSALMON_GUEST_FAILS, 1},
-    {"P5: an E of 0", {5, 2, 1, 2}, 4, TOLLSALMON_GUEST_FAILS, 1},
-    {"rows below make a guest fail", {10, 10, 2, 1, 40, 35, 6, 2, 50, 50, 8, 1, 100, 90, 10, 2, 1000, 1000, 50, 3}, 20,
-     TOLLSALMON_GUEST_FAILS, 1},
+    {"P4: a C too long for its E", {10, 8, 7, 2}, 4, TOLLSALMON_NO_GUEST_WINDOW, 1},
+    {"P5: an E of 0", {5, 2, 1, 2}, 4, TOLLSALMON_NO_GUEST_WINDOW, 1},
+    {"rows below leave a guest no window", {10, 10, 2, 1, 40, 35, 6, 2, 50, 50, 8, 1, 100, 90, 10, 2, 1000, 1000, 50, 3}, 20,
+     TOLLSALMON_NO_GUEST_WINDOW, 1},
+    {"neither window at task 2", {5, 4, 1, 1, 3, 3, 2, 1}, 8, TOLLSALMON_NO_GUEST_WINDOW, 2},
+    {"7 at task 1 before 19 at task 2", {7, 4, 3, 1, 11, 10, 1, 3}, 8, TOLLSALMON_NO_GUEST_WINDOW, 1},
+    {"no window after the own hypertask", {5, 5, 2, 1, 8, 8, 2, 1}, 8, TOLLSALMON_NO_HYPERTASK_WINDOW, 2},
+    {"19 at task 1 before 7 at task 2", {23, 23, 8, 7, 19, 19, 4, 2, 21, 21, 4, 3}, 12, TOLLSALMON_NO_HYPERTASK_WINDOW, 1},
 };
 
 static void try_refused_tables(void)
@@ -427,6 +431,14 @@ static const uint8_t plan_without_script[] = {
     1, 0, 0, 0, 16, 0, 0, 0, 16, 0, 0, 0,
     10, 0, 0, 0, 8, 0, 0, 0, 6, 0, 0, 0, 2, 0, 0, 0,
 };
+/* Its K is too long: 19 at task 2. */
+static const uint8_t plan_refused[] = {
+    1, 0, 0, 0,
+    1, 0, 0, 0, 16, 0, 0, 0, 32, 0, 0, 0,
+    15, 0, 0, 0, 15, 0, 0, 0, 5, 0, 0, 0, 1, 0, 0, 0,
+    20, 0, 0, 0, 20, 0, 0, 0, 6, 0, 0, 0, 4, 0, 0, 0,
+};
+static const char refused_text[] = "REFUSE 19 2\n";
 
 /* A text with room of every size: all of it or nothing. */
 static void try_text(const char *what, struct lent file, const void *wanted, size_t length)
@@ -584,6 +596,7 @@ int main(void)
     try_parts();
     try_scripts();
     try_text("a text", in(plan, sizeof plan), text, TEXT);
+    try_text("a refused table's text", in(plan_refused, sizeof plan_refused), refused_text, sizeof refused_text - 1);
     try_refused_writes();
     try_writes();
     try_null();

@@ -26,7 +26,7 @@ fn names() -> Vec<String> {
     let files = fs::read_dir(in_plans("")).unwrap().map(|file| file.unwrap().file_name());
     let name = |file: String| file.strip_suffix(".plan").map(str::to_string);
     let names: Vec<String> = files.filter_map(|file| name(file.into_string().unwrap())).collect();
-    assert!(names.len() >= 11, "the plans are missing: {names:?}");
+    assert!(names.len() >= 12, "the plans are missing: {names:?}");
     names
 }
 

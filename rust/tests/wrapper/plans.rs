@@ -21,7 +21,7 @@ fn every_plan_runs_to_its_text_or_is_refused_as_it_says() {
         }
     }
     refused.sort();
-    assert_eq!(refused, ["damaged", "damaged-record", "refused-table"]);
+    assert_eq!(refused, ["damaged", "damaged-record", "refused-hypertask", "refused-table"]);
 }
 
 #[test]

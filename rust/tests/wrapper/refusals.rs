@@ -96,6 +96,7 @@ fn every_refusal_comes_through_but_two() {
         of_table(&[5, 5, 1, 6]),
         of_table(&[5, 2, 1, 3]),
         of_table(&[10, 8, 7, 2]),
+        of_table(&[5, 5, 2, 1, 8, 8, 2, 1]),
         of_tick(&[(7, 4)], 0),
         of_tick(&[(1, 1 << 40)], 0),
         of_tick(&[], 2),
@@ -109,7 +110,40 @@ fn every_refusal_comes_through_but_two() {
     ];
     let numbers: BTreeSet<u32> = refusals.iter().map(Refusal::number).collect();
     let lent_too_little = [Name::ResultsShort as u32, Name::OutputShort as u32];
-    assert_eq!(numbers, (1..=18).filter(|number| !lent_too_little.contains(number)).collect());
+    assert_eq!(numbers, on_the_page().filter(|number| !lent_too_little.contains(number)).collect());
+}
+
+/// The numbers of all refusals, from the page that has their words.
+fn on_the_page() -> impl Iterator<Item = u32> {
+    let lines = include_str!("../../../include/refusals.txt").lines().filter(|line| !line.starts_with('#'));
+    lines.map(|line| line.split('|').next().unwrap().parse().unwrap())
+}
+
+/// The refusal of a table, whose advice begins and ends with what is given.
+fn of_table_with_advice(table: &[u32], first: &str, last: &str) -> String {
+    let refusal = check_table(table).unwrap_err();
+    let advice = refusal.advice();
+    assert!(advice.starts_with(first) && advice.ends_with(last), "{advice}");
+    refusal.to_string()
+}
+
+#[test]
+fn a_guests_two_windows_in_words() {
+    let said = of_table_with_advice(&[10, 8, 7, 2], "shorten this C, ", ", or lengthen this D (with its T)");
+    let words = "the guest can't have its ticks before its enforcement instant";
+    assert_eq!(said, format!("refusal 7, task 1: {words}"));
+    let said = of_table_with_advice(&[5, 5, 2, 1, 8, 8, 2, 1], "shorten this K, ", ", or lengthen this T");
+    let words = "after the task's own hypertask the guest can't have its ticks within the period";
+    assert_eq!(said, format!("refusal 19, task 2: {words}"));
+}
+
+#[test]
+fn a_plan_whose_table_is_refused_for_a_hypertask() {
+    let plan = Plan { table: vec![5, 5, 2, 1, 8, 8, 2, 1], script: vec![Tick::arrivals(&[2])] };
+    let file = plan.write().unwrap();
+    assert_eq!(check_plan(&file), Ok(()));
+    assert_eq!(refusal(plan.run()), (19, 2));
+    assert_eq!(refusal(run_to_text(&file)), (19, 2));
 }
 
 #[test]
