@@ -54,8 +54,9 @@ crates_for() {
     END { visit(crate); print total + 0 }' crates.txt
 }
 
+# The time since a start, or since the build at hand began.
 so_far() {
-  local seconds=$((SECONDS - began))
+  local seconds=$((SECONDS - ${1:-$began}))
   [[ $seconds -lt 60 ]] || printf '%d min ' $((seconds / 60))
   printf '%d s so far' $((seconds % 60))
 }

@@ -34,7 +34,7 @@ edges() {
 }
 
 run_tests() {
-  local last
+  local last start=$SECONDS
   need_kit
   need_rust
   make_room
@@ -45,10 +45,12 @@ run_tests() {
   say "proving every crate from nothing; this takes some minutes"
   rt ci 9>&- | tee "$room/ci" || die 3 "not every crate is proved"
   last=$(tail -n 1 "$room/ci")
+  say "every crate is proved and every edit refused ($(so_far "$start"))"
   library
   compare
   plans
   edges
+  say "everything is compared and tested ($(so_far "$start"))"
   case "$last" in
     *", 0 failed") echo "$last" ;;
     *) die 1 "rt ci did not end with '0 failed'" ;;
