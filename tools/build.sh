@@ -54,9 +54,9 @@ crates_for() {
     END { visit(crate); print total + 0 }' crates.txt
 }
 
-# The time since a start, or since the build at hand began.
+# The time since a start.
 so_far() {
-  local seconds=$((SECONDS - ${1:-$began}))
+  local seconds=$((SECONDS - $1))
   [[ $seconds -lt 60 ]] || printf '%d min ' $((seconds / 60))
   printf '%d s so far' $((seconds % 60))
 }
@@ -73,7 +73,7 @@ prove() {
   rt check "$@" 2>&1 9>&- | tee "$room/log" | while IFS= read -r line; do
     [[ $line =~ ^rt:\ ([A-Za-z0-9_]+)\ proved\ \((.*)\)$ ]] || continue
     count=$((count + 1))
-    [[ ${BASH_REMATCH[2]} == unchanged* ]] || say "proved $count of $total: ${BASH_REMATCH[1]} ($(so_far))"
+    [[ ${BASH_REMATCH[2]} == unchanged* ]] || say "proved $count of $total: ${BASH_REMATCH[1]} ($(so_far "$began"))"
   done || not_proved "$what"
 }
 
@@ -109,7 +109,7 @@ static_library() {
   # shellcheck disable=SC2046 # names of crates, one word each
   prove "$what" "$total" $(named_by "$crate")
   rt staticlib "$crate" >"$room/log" 2>&1 9>&- || not_proved "$what"
-  say "proved $total of $total: $crate ($(so_far))"
+  say "proved $total of $total: $crate ($(so_far "$began"))"
   end_mark "$crate"
 }
 
