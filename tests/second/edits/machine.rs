@@ -326,6 +326,17 @@ const OF_RULES: &[Edit] = &[
         "machine.clock = 1;\n    machine.count = table.len() as u64 / 4;",
     ),
     edit(
+        "19 of a start told as 7",
+        "(WITHOUT_ROWS, Err(refusal))",
+        "(WITHOUT_ROWS, Err(if refusal.number == 19 { Refusal { number: 7, ..refusal } } else { refusal }))",
+    ),
+    edit(
+        "a start refused with 19 keeps its rows",
+        "Err(refusal) => (WITHOUT_ROWS, Err(refusal)),",
+        "Err(refusal) if refusal.number == 19 => (fresh(table, &results), Err(refusal)),\n        \
+         Err(refusal) => (WITHOUT_ROWS, Err(refusal)),",
+    ),
+    edit(
         "a refused start keeps its rows",
         "(WITHOUT_ROWS, Err(refusal))",
         "(fresh(&table[..table.len().min(128) / 4 * 4], &results), Err(refusal))",

@@ -5,6 +5,43 @@ use super::{edit, Edit, Source};
 pub const ANALYSIS: Source =
     Source { file: "src/tables/analysis.rs", edits: EDITS, program: |module| format!("{module}::analyse") };
 
+// Texts that several edits find, and what they put there.
+
+const BOTH_WINDOWS: &str = "let WA = WA(rows, E, i).ok_or(refusal(7, i + 1))?;\n    \
+     let WE = WE(rows, E, i).ok_or(refusal(19, i + 1))?;";
+const SWAPPED: &str = "let WA = WA(rows, E, i).ok_or(refusal(19, i + 1))?;\n    \
+     let WE = WE(rows, E, i).ok_or(refusal(7, i + 1))?;";
+const IN_THE_OTHER_ORDER: &str = "let WE = WE(rows, E, i).ok_or(refusal(19, i + 1))?;\n    \
+     let WA = WA(rows, E, i).ok_or(refusal(7, i + 1))?;";
+const EVERY_GUEST: &str = "(0..rows.len()).map(|i| G(rows, E, i)).collect()";
+const EVERY_HYPERTASK: &str = "(0..rows.len()).map(|i| R(rows, i)).collect()";
+
+/// This window of every row before the other window of any row.
+macro_rules! window_of_every_guest_first {
+    ($window:literal, $number:literal) => {
+        concat!(
+            "for i in 0..rows.len() { ",
+            $window,
+            "(rows, E, i).ok_or(refusal(",
+            $number,
+            ", i + 1))?; }\n    (0..rows.len()).map(|i| G(rows, E, i)).collect()",
+        )
+    };
+}
+
+/// A guest that gets this number is told before the next row's hypertask is looked at.
+macro_rules! guest_after_its_hypertask {
+    ($number:literal) => {
+        concat!(
+            "let (mut all, mut E) = (vec![], vec![]);\n    for i in 0..rows.len() {\n        \
+             all.push(R(rows, i)?);\n        E.push(rows[i].D - all[i]);\n        \
+             let fails = G(rows, &E, i).err().filter(|why| why.number == ",
+            $number,
+            ");\n        if let Some(why) = fails { return Err(why) }\n    }\n    Ok(all)",
+        )
+    };
+}
+
 const EDITS: &[Edit] = &[
     // The shape of what was handed in.
     edit("33 rows let through", "LONGEST_TABLE: usize = 128", "LONGEST_TABLE: usize = 132"),
@@ -81,10 +118,37 @@ const EDITS: &[Edit] = &[
     edit("limit of WE one too large", "let limit = rows[i].T;", "let limit = rows[i].T + 1;"),
     edit("limit of WE one too small", "let limit = rows[i].T;", "let limit = rows[i].T - 1;"),
     edit("K left out of WE", "rows[i].C + rows[i].K +", "rows[i].C +"),
-    edit("WE not looked at", "(WA(rows, E, i)?, WE(rows, E, i)?)", "(WA(rows, E, i)?, 0)"),
-    edit("G is WA alone", "Some(WA.max(WE - (rows[i].T - E[i])))", "Some(WA.max(WE - WE))"),
-    edit("G is WE alone", "Some(WA.max(WE -", "Some((WE -"),
+    edit("WE not looked at", "WE(rows, E, i).ok_or(refusal(19, i + 1))?", "0"),
+    edit("WA held to T", "let limit = E[i];", "let limit = rows[i].T;"),
+    edit("WE held to E", "let limit = rows[i].T;", "let limit = E[i];"),
+    edit("G is WA alone", "Ok(WA.max(WE - (rows[i].T - E[i])))", "Ok(WA.max(WE - WE))"),
+    edit("G is WE alone", "Ok(WA.max(WE -", "Ok((WE -"),
+    // Which of the two windows is told, and of which row.
+    edit("7 and 19 swapped", BOTH_WINDOWS, SWAPPED),
+    edit("7 for both windows", "refusal(19, i + 1)", "refusal(7, i + 1)"),
+    edit("19 for both windows", "refusal(7, i + 1)", "refusal(19, i + 1)"),
+    edit("19 before 7 in a row", BOTH_WINDOWS, IN_THE_OTHER_ORDER),
+    edit("19 after 7 of every row", EVERY_GUEST, window_of_every_guest_first!("WA", 7)),
+    edit("7 after 19 of every row", EVERY_GUEST, window_of_every_guest_first!("WE", 19)),
+    edit(
+        "the last guest that fails told",
+        EVERY_GUEST,
+        "(0..rows.len()).rev().try_for_each(|i| G(rows, E, i).map(|_| ()))?;\n    \
+         (0..rows.len()).map(|i| G(rows, E, i)).collect()",
+    ),
     edit("place of 7 from 0", "refusal(7, i + 1)", "refusal(7, i)"),
+    edit("place of 19 from 0", "refusal(19, i + 1)", "refusal(19, i)"),
+    edit("7 before 5 and 6 of the rows below", EVERY_HYPERTASK, guest_after_its_hypertask!(7)),
+    edit("19 before 5 and 6 of the rows below", EVERY_HYPERTASK, guest_after_its_hypertask!(19)),
+    edit(
+        "4 after 7 and 19",
+        "check_room(table, results)?;\n    let rows = rows_of(table);\n    \
+         let R = hypertask_responses(&rows)?;\n    let E = enforcement_offsets(&rows, &R);\n    \
+         let G = guest_responses(&rows, &E)?;",
+        "let rows = rows_of(table);\n    let R = hypertask_responses(&rows)?;\n    \
+         let E = enforcement_offsets(&rows, &R);\n    let G = guest_responses(&rows, &E)?;\n    \
+         check_room(table, results)?;",
+    ),
     // What is written.
     edit(
         "one place too many written",

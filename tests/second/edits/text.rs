@@ -136,6 +136,11 @@ const EDITS: &[Edit] = &[
     edit("ACCEPT with the numbers of the table", "accept_line(tasks)", "accept_line(4 * tasks)"),
     edit("ACCEPT without a number", "\"ACCEPT {tasks}\\n\"", "\"ACCEPT\\n\""),
     // Refusals, and the bytes between the words.
+    edit(
+        "19 told as 7",
+        "refusal.number, refusal.place",
+        "if refusal.number == 19 { 7 } else { refusal.number }, refusal.place",
+    ),
     edit("place before number", "refusal.number, refusal.place", "refusal.place, refusal.number"),
     edit(
         "the place left out",

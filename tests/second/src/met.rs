@@ -39,6 +39,23 @@ impl Counts<usize> {
     }
 }
 
+impl Counts<u32> {
+    /// The refusals that were met though their numbers are none of these.
+    pub fn others(&self, numbers: &[u32]) -> Counts<u32> {
+        let others = self.0.iter().filter(|(number, _)| !numbers.contains(number));
+        Counts(others.map(|(number, count)| (*number, *count)).collect())
+    }
+
+    pub fn total(&self) -> usize {
+        self.0.values().sum()
+    }
+
+    /// A line for each number, with nothing demanded.
+    pub fn lines(&self) -> Vec<Demand> {
+        self.0.iter().map(|(number, count)| demand(format!("refusal {number}"), *count, 0)).collect()
+    }
+}
+
 /// A kind of made-up cases, as it is counted and printed: in words.
 pub fn name(kind: impl Debug) -> String {
     let mut words = String::new();
@@ -78,12 +95,30 @@ pub fn is_good(met: &[Demand], amiss: &[(&str, usize)]) -> bool {
     let amiss_at_all = amiss.iter().filter(|(_, count)| *count > 0);
     let wrong: Vec<String> =
         rare.chain(amiss_at_all.map(|(name, count)| format!("{count} {name}"))).collect();
-    met.iter().for_each(|(name, met, _)| line(name, *met));
-    amiss.iter().for_each(|(name, count)| line(name, *count));
+    met.iter().for_each(|(name, met, fewest)| line(name, *met, *fewest));
+    amiss.iter().for_each(|(name, count)| line(name, *count, 0));
     wrong.iter().for_each(|what| println!("FAILED: {what}"));
     wrong.is_empty()
 }
 
-fn line(name: &str, count: usize) {
-    println!("{name:<44}{count:>9}");
+/// With what is demanded, where something is.
+fn line(name: &str, count: usize, fewest: usize) {
+    let demanded = if fewest > 0 { format!("  (demanded: {fewest})") } else { String::new() };
+    println!("{name:<44}{count:>9}{demanded}");
+}
+
+#[test]
+fn numbers_that_are_not_listed_are_others() {
+    let mut refused = Counts::default();
+    [7, 19, 20, 7, 20].into_iter().for_each(|number: u32| refused.meet(number));
+    let others = refused.others(&[1, 7, 19]);
+    assert_eq!((others.total(), others.lines()), (2, vec![demand("refusal 20", 2, 0)]));
+    assert_eq!(refused.others(&[7, 19, 20]).total(), 0);
+}
+
+#[test]
+fn too_rare_or_amiss_is_not_good() {
+    assert!(is_good(&[demand("met", 5, 5)], &[("amiss", 0)]));
+    assert!(!is_good(&[demand("met", 4, 5)], &[("amiss", 0)]));
+    assert!(!is_good(&[demand("met", 5, 5)], &[("amiss", 1)]));
 }

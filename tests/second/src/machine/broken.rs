@@ -20,4 +20,5 @@ pub struct Program {
 /// The one without a fault.
 pub const SECOND: Program = Program { rules: RULES, start: start_into, ticks, step };
 
+#[cfg(not(test))] // the tests have no use for them, and they take long to compile
 include!(concat!(env!("OUT_DIR"), "/broken_machine.rs"));

@@ -89,6 +89,8 @@ fn a_refused_start_gives_the_machine_with_no_rows() {
         (&[5, 5, 1, 6], 5, 1),
         (&[5, 2, 1, 3], 6, 1),
         (&[10, 8, 7, 2], 7, 1),
+        (&[5, 5, 2, 1, 8, 8, 2, 1], 19, 2),
+        (&[23, 23, 8, 7, 19, 19, 4, 2, 21, 21, 4, 3], 19, 1),
     ] {
         assert_eq!(start(table), (WITHOUT_ROWS, Err(refusal(number, place))));
     }

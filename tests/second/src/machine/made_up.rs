@@ -15,7 +15,7 @@ use crate::turns::in_turns;
 /// How many machines of each kind one run hands on.
 pub const KINDS: [(Kind, usize); 6] = [
     (Kind::Accepted, 7_000),
-    (Kind::AnyTable, 5_000),
+    (Kind::AnyTable, 8_000),
     (Kind::HandBuilt, 10_000),
     (Kind::NearTheLastClock, 3_000),
     (Kind::Damaged, 300 * DAMAGES.len()),

@@ -14,4 +14,5 @@ pub struct Functions {
     pub write: fn(&[u32], &[u8], &mut [u8]) -> Answer,
 }
 
+#[cfg(not(test))] // the tests have no use for them, and they take long to compile
 include!(concat!(env!("OUT_DIR"), "/broken_plan.rs"));

@@ -1,6 +1,6 @@
-//! The analysis of one table: document 01's "Response equations" and refusals 1 to 7, in the
-//! document's order and with its names. Rows are counted from 0 here and tasks from 1, so the
-//! task of row i is i + 1.
+//! The analysis of one table: document 01's "Response equations" and refusals 1 to 7, with 19 of
+//! document 02's order 1, in the document's order and with its names. Rows are counted from 0 here
+//! and tasks from 1, so the task of row i is i + 1.
 
 #![allow(non_snake_case)]
 
@@ -144,7 +144,7 @@ fn enforcement_offsets(rows: &[Row], R: &[i64]) -> Vec<i64> {
     rows.iter().zip(R).map(|(row, R)| row.D - R).collect()
 }
 
-// Guest: equation 4, refusal 7.
+// Guest: equation 4, refusals 7 and 19.
 
 /// What a row above asks for in a length w that is begun by its hypertask.
 fn begun_by_a_hypertask(row: &Row, E: i64, w: i64) -> i64 {
@@ -182,15 +182,27 @@ fn WE(rows: &[Row], E: &[i64], i: usize) -> Option<i64> {
     least(1, limit, |w| rows[i].C + rows[i].K + F(rows, E, i, w))
 }
 
-/// G(i), where the guest passes.
-fn G(rows: &[Row], E: &[i64], i: usize) -> Option<i64> {
-    let (WA, WE) = (WA(rows, E, i)?, WE(rows, E, i)?);
-    Some(WA.max(WE - (rows[i].T - E[i])))
+/// G(i), where the guest passes: 7 for the window that it begins, 19 for the one that the task's own
+/// hypertask begins.
+fn G(rows: &[Row], E: &[i64], i: usize) -> Result<i64, Refusal> {
+    let WA = WA(rows, E, i).ok_or(refusal(7, i + 1))?;
+    let WE = WE(rows, E, i).ok_or(refusal(19, i + 1))?;
+    Ok(WA.max(WE - (rows[i].T - E[i])))
 }
 
+/// Row by row: both windows of a row are looked at before the next row's.
 fn guest_responses(rows: &[Row], E: &[i64]) -> Result<Vec<i64>, Refusal> {
-    let response = |i| G(rows, E, i).ok_or(refusal(7, i + 1));
-    (0..rows.len()).map(response).collect()
+    (0..rows.len()).map(|i| G(rows, E, i)).collect()
+}
+
+/// WA and WE of a task, each where it is within its limit.
+pub type Windows = (Option<i64>, Option<i64>);
+
+/// The windows of every task, whichever of them fail, of a table that passes the checks before 7.
+pub fn windows(table: &[u32]) -> Result<Vec<Windows>, Refusal> {
+    let rows = &rows_of(table);
+    let E = enforcement_offsets(rows, &hypertask_responses(rows)?);
+    Ok((0..rows.len()).map(|i| (WA(rows, &E, i), WE(rows, &E, i))).collect())
 }
 
 /// R, E, G for each task and nothing past them.

@@ -7,4 +7,5 @@ use crate::answer::Answer;
 
 pub type Analyse = fn(&[u32], &mut [u32]) -> Answer;
 
+#[cfg(not(test))] // the tests have no use for them, and they take long to compile
 include!(concat!(env!("OUT_DIR"), "/broken_tables.rs"));

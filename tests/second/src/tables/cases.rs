@@ -2,7 +2,7 @@
 
 use crate::answer::{refusal, Answer};
 use crate::dice::Dice;
-use crate::tables::analysis::{analyse, least};
+use crate::tables::analysis::{analyse, least, windows, Windows};
 
 const UNTOUCHED: u32 = 0xA5A5_A5A5;
 
@@ -101,10 +101,64 @@ fn active_period_at_its_limit_and_one_past_it() {
     assert_refused(&[41, 41, 1, 40, 1_000_000, 1_000_000, 1, 97_561], 5, 1);
 }
 
+/// A task's window, or none where it isn't within its limit.
+fn assert_windows(table: &[u32], expected: &[Windows]) {
+    assert_eq!(windows(table).as_deref(), Ok(expected));
+}
+
 #[test]
-fn guest_in_time_but_not_its_hypertask() {
-    // WA(2) is at most E(2); WE(2) is above T(2).
-    assert_refused(&[5, 5, 2, 1, 8, 8, 2, 1], 7, 2);
+fn window_begun_by_the_hypertask_fails_at_the_last_task() {
+    // WA(2) is 5, at E, and WE(2) is 9.
+    assert_refused(&[5, 5, 2, 1, 8, 8, 2, 1], 19, 2);
+    assert_windows(&[5, 5, 2, 1, 8, 8, 2, 1], &[(Some(3), Some(4)), (Some(5), None)]);
+    assert_refused(&[6, 6, 3, 1, 10, 10, 2, 1], 19, 2);
+    assert_windows(&[6, 6, 3, 1, 10, 10, 2, 1], &[(Some(4), Some(5)), (Some(6), None)]);
+    let three = [12, 12, 5, 1, 15, 15, 1, 2, 19, 19, 3, 1];
+    assert_refused(&three, 19, 3);
+    assert_windows(&three, &[(Some(8), Some(9)), (Some(8), Some(10)), (Some(12), None)]);
+}
+
+#[test]
+fn window_19_of_a_row_before_7_of_the_rows_below() {
+    // Below, both windows fail: with E = 0, and with E = 2.
+    let without_time = [23, 23, 8, 7, 19, 19, 4, 2, 21, 21, 4, 3];
+    assert_refused(&without_time, 19, 1);
+    assert_windows(&without_time, &[(Some(13), None), (None, None), (None, None)]);
+    let with_time = [20, 20, 4, 1, 13, 13, 4, 4, 17, 17, 1, 5];
+    assert_refused(&with_time, 19, 1);
+    assert_windows(&with_time, &[(Some(13), None), (None, None), (None, None)]);
+    let at_task_2 = [12, 11, 5, 1, 19, 18, 4, 1, 17, 15, 2, 2];
+    assert_refused(&at_task_2, 19, 2);
+    assert_windows(&at_task_2, &[(Some(8), Some(9)), (Some(12), None), (None, None)]);
+}
+
+#[test]
+fn window_7_of_a_row_before_19_of_the_rows_below() {
+    assert_refused(&[5, 4, 3, 1, 8, 8, 1, 1], 7, 1);
+    assert_windows(&[5, 4, 3, 1, 8, 8, 1, 1], &[(None, Some(5)), (Some(5), None)]);
+}
+
+#[test]
+fn window_7_where_both_fail() {
+    assert_refused(&[2, 2, 2, 1], 7, 1);
+    assert_windows(&[2, 2, 2, 1], &[(None, None)]);
+    assert_refused(&[5, 5, 1, 1, 4, 4, 3, 1], 7, 2);
+    assert_windows(&[5, 5, 1, 1, 4, 4, 3, 1], &[(Some(2), Some(3)), (None, None)]);
+}
+
+#[test]
+fn windows_at_their_limits() {
+    assert_accepted(&[2, 2, 1, 1], &[1, 1, 1]);
+    assert_windows(&[2, 2, 1, 1], &[(Some(1), Some(2))]);
+}
+
+#[test]
+fn hypertasks_of_all_rows_before_19() {
+    assert_refused(&[22, 21, 8, 2, 16, 16, 1, 4, 15, 15, 6, 3], 19, 1);
+    assert_refused(&[22, 21, 8, 2, 16, 7, 1, 4, 15, 5, 6, 3], 6, 2);
+    assert_refused(&[22, 21, 8, 2, 16, 16, 1, 4, 15, 5, 6, 3], 6, 3);
+    // WA(1) is 5 and WE(1) is 30.
+    assert_refused(&[20, 20, 1, 5, 5, 5, 1, 4], 5, 2);
 }
 
 #[test]
@@ -119,6 +173,8 @@ fn checks_go_by_number() {
     assert_refused_with(0, &[10, 11, 1, 1_000_001], 2, 3);
     assert_refused_with(0, &[10, 11, 1, 1], 3, 1);
     assert_refused_with(0, &[5, 5, 1, 6], 4, 3);
+    assert_refused_with(5, &[5, 5, 2, 1, 8, 8, 2, 1], 4, 6);
+    assert_refused_with(6, &[5, 5, 2, 1, 8, 8, 2, 1], 19, 2);
     // Task 1's guest doesn't pass, but task 2's hypertask is looked at before it.
     assert_refused(&[100, 100, 99, 1, 5, 5, 1, 6], 5, 2);
 }

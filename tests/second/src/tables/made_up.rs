@@ -2,14 +2,15 @@
 
 #![allow(non_snake_case)]
 
-use crate::answer::Answer;
+use crate::answer::{Answer, Refusal};
 use crate::dice::Dice;
-use crate::tables::analysis::analyse;
+use crate::tables::analysis::{analyse, windows};
 
 /// How many tables of each kind one run hands on, at least.
-pub const KINDS: [(Kind, usize); 7] = [
-    (Kind::Light, 50_000),
-    (Kind::Tight, 90_000),
+pub const KINDS: [(Kind, usize); 8] = [
+    (Kind::Light, 40_000),
+    (Kind::Tight, 75_000),
+    (Kind::Windows, 25_000),
     (Kind::Small, 40_000),
     (Kind::Overloaded, 40_000),
     (Kind::Planted, 25_000),
@@ -24,6 +25,9 @@ pub enum Kind {
     Light,
     /// On the way to, and on either side of, a place where the answer changes.
     Tight,
+    /// With one hypertask so long that its guest's two windows mostly fail at different lengths of the
+    /// guest: on either side of them.
+    Windows,
     /// Few rows of small numbers, where every rounding shows.
     Small,
     /// More to do than there is time for.
@@ -57,7 +61,7 @@ const TURNS: usize = 50;
 
 /// Hands on every case of one run, until `take` answers false.
 pub fn hand_on(seed: u64, take: &mut dyn FnMut(&Case) -> bool) {
-    let mut maker = Maker { dice: Dice::new(seed), slow_left: SLOW_TABLES, given: 0, stopped: false, take };
+    let mut maker = Maker::new(seed, take);
     for turn in 0..TURNS {
         for (kind, least) in KINDS {
             if kind != Kind::Written {
@@ -69,13 +73,14 @@ pub fn hand_on(seed: u64, take: &mut dyn FnMut(&Case) -> bool) {
     }
 }
 
-/// So many of the tables that a run begins with: all that are planted, written by hand or of any
-/// length, and one in so many of the others.
+/// So many of the tables that a run begins with: all that are planted, of two windows, written by hand
+/// or of any length, and one in so many of the others.
 pub fn some_of_a_run(seed: u64, number: usize, one_in: usize) -> Vec<Vec<u32>> {
     let (mut found, mut given) = (Vec::new(), 0);
     hand_on(seed, &mut |case| {
         given += 1;
-        if given % one_in == 0 || matches!(case.kind, Kind::Length | Kind::Planted | Kind::Written) {
+        let is_rare = matches!(case.kind, Kind::Length | Kind::Planted | Kind::Windows | Kind::Written);
+        if is_rare || given % one_in == 0 {
             found.push(case.table.clone());
         }
         found.len() < number
@@ -86,46 +91,53 @@ pub fn some_of_a_run(seed: u64, number: usize, one_in: usize) -> Vec<Vec<u32>> {
 struct Maker<'a> {
     dice: Dice,
     slow_left: usize,
-    /// Cases handed on in this turn.
+    /// Whose turn it is, and the cases handed on in it.
+    kind: Kind,
     given: usize,
     stopped: bool,
     take: &'a mut dyn FnMut(&Case) -> bool,
 }
 
 impl Maker<'_> {
+    fn new(seed: u64, take: &mut dyn FnMut(&Case) -> bool) -> Maker<'_> {
+        let dice = Dice::new(seed);
+        Maker { dice, slow_left: SLOW_TABLES, kind: Kind::Written, given: 0, stopped: false, take }
+    }
+
     fn made_up(&mut self, kind: Kind, least: usize) {
-        self.given = 0;
+        (self.kind, self.given) = (kind, 0);
         while self.given < least && !self.stopped {
             match kind {
                 Kind::Tight => self.tight(),
-                _ => self.one(kind),
+                Kind::Windows => self.windows(),
+                _ => self.one(),
             }
         }
     }
 
-    fn one(&mut self, kind: Kind) {
-        let table = match kind {
+    fn one(&mut self) {
+        let table = match self.kind {
             Kind::Light => light(&mut self.dice),
             Kind::Small => small(&mut self.dice),
             Kind::Overloaded => overloaded(&mut self.dice),
             Kind::Length => of_any_length(&mut self.dice),
             _ => planted(&mut self.dice),
         };
-        self.give(kind, table);
+        self.give(table);
     }
 
     /// A made-up table, with results lent that mostly suffice.
-    fn give(&mut self, kind: Kind, table: Vec<u32>) {
+    fn give(&mut self, table: Vec<u32>) {
         if self.affordable(&table) {
             let results = results_to_lend(&mut self.dice, table.len());
-            self.give_with(kind, table, results);
+            self.give_with(table, results);
         }
     }
 
-    fn give_with(&mut self, kind: Kind, table: Vec<u32>, results: usize) {
+    fn give_with(&mut self, table: Vec<u32>, results: usize) {
         if !self.stopped {
             self.given += 1;
-            self.stopped = !(self.take)(&Case { kind, table, results });
+            self.stopped = !(self.take)(&Case { kind: self.kind, table, results });
         }
     }
 
@@ -139,10 +151,11 @@ impl Maker<'_> {
     }
 
     fn written(&mut self) {
+        self.kind = Kind::Written;
         for table in CASES.iter().chain(WRITTEN) {
             let needed = 3 * (table.len() / 4);
             for results in [0, needed.saturating_sub(1), needed, needed + 1, needed + 5] {
-                self.give_with(Kind::Written, table.to_vec(), results);
+                self.give_with(table.to_vec(), results);
             }
         }
     }
@@ -150,42 +163,58 @@ impl Maker<'_> {
     /// A shape whose load is raised until the answer changes, then single numbers of it.
     fn tight(&mut self) {
         let shape = Shape::new(&mut self.dice);
-        let Some(mut table) = self.close_in(0, 4000, &|scale| shape.loaded(scale)) else {
-            return;
-        };
+        let met = self.close_in(0, 4000, &|scale| shape.loaded(scale), &quick_answer);
+        self.move_single_numbers(met, is_accepted);
+    }
+
+    /// The guest of a long hypertask made as long as the window that it begins allows; then, where the
+    /// other window fails, single numbers of the table.
+    fn windows(&mut self) {
+        let (table, row) = one_long_hypertask(&mut self.dice);
+        let longer = |C: u32| with(&table, 4 * row + 2, C);
+        let in_time = |table: &[u32]| windows(table).is_ok_and(|of_task| of_task[row].0.is_some());
+        let met = self.close_in(1, table[4 * row], &longer, &in_time);
+        self.move_single_numbers(met, is_refused_with_19);
+    }
+
+    /// Goes on with the first of these tables that is answered as wanted, if one is: moves a number of
+    /// it until the answer changes, and then another one.
+    fn move_single_numbers(&mut self, tables: [Vec<u32>; 2], is_wanted: fn(&[u32]) -> bool) {
+        let mut wanted = tables.into_iter().find(|table| is_wanted(table));
         for _ in 0..6 {
-            let (low, high, numbered) = single_number(&mut self.dice, &table);
-            let before = table.clone();
-            if let Some(changed) = self.close_in(low, high, &|number| numbered(&before, number)) {
-                table = changed;
-            }
+            let Some(table) = &wanted else { return };
+            let (low, high, numbered) = single_number(&mut self.dice, table);
+            let met = self.close_in(low, high, &|number| numbered(table, number), &quick_answer);
+            wanted = met.into_iter().find(|table| is_wanted(table)).or(wanted);
         }
     }
 
-    /// Halves the way between two numbers that get different answers until they are next to
-    /// each other, and hands on every table met. Gives the last table accepted, if any.
-    fn close_in(&mut self, low: u32, high: u32, table_of: &dyn Fn(u32) -> Vec<u32>) -> Option<Vec<u32>> {
-        let (mut low, mut high) = (low, high);
-        let at_low = self.give_tight(table_of(low));
-        let at_high = self.give_tight(table_of(high));
-        if at_low == at_high {
-            return is_accepted(&at_low).then(|| table_of(low));
-        }
-        while high - low > 1 && !self.stopped {
+    /// Halves the way between two numbers whose tables look different until they are next to each
+    /// other, and hands on every table met. Gives the last two.
+    fn close_in<Look: PartialEq>(
+        &mut self,
+        mut low: u32,
+        mut high: u32,
+        table_of: &dyn Fn(u32) -> Vec<u32>,
+        look: &dyn Fn(&[u32]) -> Look,
+    ) -> [Vec<u32>; 2] {
+        let at_low = self.give_and_look(table_of(low), look);
+        let at_high = self.give_and_look(table_of(high), look);
+        while at_low != at_high && high - low > 1 && !self.stopped {
             let middle = low + (high - low) / 2;
-            if self.give_tight(table_of(middle)) == at_low {
+            if self.give_and_look(table_of(middle), look) == at_low {
                 low = middle;
             } else {
                 high = middle;
             }
         }
-        [low, high].into_iter().map(table_of).find(|table| is_accepted(&quick_answer(table)))
+        [low, high].map(table_of)
     }
 
-    fn give_tight(&mut self, table: Vec<u32>) -> Option<Answer> {
-        let answer = quick_answer(&table);
-        self.give(Kind::Tight, table);
-        answer
+    fn give_and_look<Look>(&mut self, table: Vec<u32>, look: &dyn Fn(&[u32]) -> Look) -> Look {
+        let seen = look(&table);
+        self.give(table);
+        seen
     }
 }
 
@@ -194,8 +223,12 @@ fn quick_answer(table: &[u32]) -> Option<Answer> {
     (!climbs_slowly(table)).then(|| analyse(table, &mut [0; 96]))
 }
 
-fn is_accepted(answer: &Option<Answer>) -> bool {
-    matches!(answer, Some(Ok(_)))
+fn is_accepted(table: &[u32]) -> bool {
+    matches!(quick_answer(table), Some(Ok(_)))
+}
+
+fn is_refused_with_19(table: &[u32]) -> bool {
+    matches!(quick_answer(table), Some(Err(Refusal { number: 19, .. })))
 }
 
 /// Exact or longer mostly; too short by one, none at all or any shorter length at times.
@@ -354,6 +387,50 @@ fn with_period(table: &[u32], row: usize, T: u32) -> Vec<u32> {
     with(&with(table, row, T), row + 1, D)
 }
 
+// Tables of two windows.
+
+/// A table whose hypertasks are short but for one, and the row of that one. Its own hypertask adds to
+/// the window that it begins, so that one can fail where the window begun by the guest doesn't.
+fn one_long_hypertask(dice: &mut Dice) -> (Vec<u32>, usize) {
+    let tasks = if dice.percent(50) { dice.from_to(1, 32) } else { dice.of_any_size(1, 32) };
+    let most = if dice.percent(40) { 40 * tasks } else { LARGEST / 8 };
+    let shortest = dice.of_any_size(4 * tasks + 2, most);
+    let long = if dice.percent(10) { 0 } else { dice.from_to(0, tasks - 1) as usize };
+    let (guests, parts) = (0.4 + dice.part(), dice.from_to(2, 16));
+    let mut table = Vec::new();
+    for (row, T) in window_periods(dice, tasks, shortest, long).into_iter().enumerate() {
+        let D = if row == long || dice.percent(80) { T } else { dice.from_to(3 * T / 4, T) };
+        let C = (dice.part() * guests * T as f64 / tasks as f64) as u64;
+        let (least, most) =
+            if row == long { (shortest / 12, shortest / 4) } else { (0, shortest / (parts * tasks)) };
+        push(&mut table, T, D, C, 1 + dice.from_to(least, most));
+    }
+    plant_a_guest_below(dice, &mut table, long);
+    (table, long)
+}
+
+/// Mostly rising. A row of a longer period than those below it has several of their hypertasks in a
+/// window: without guests above it, they alone make one fail.
+fn window_periods(dice: &mut Dice, tasks: u64, shortest: u64, long: usize) -> Vec<u64> {
+    let mut periods: Vec<u64> = (0..tasks).map(|_| dice.from_to(shortest, 3 * shortest)).collect();
+    if dice.percent(70) {
+        periods.sort_unstable();
+    }
+    if long == 0 || dice.percent(40) {
+        periods[long] = dice.from_to(2 * shortest, 6 * shortest);
+    }
+    periods
+}
+
+/// At times a guest below that is as long as its period: it can't pass, and row by row it comes later.
+fn plant_a_guest_below(dice: &mut Dice, table: &mut [u32], row: usize) {
+    let below = table.len() / 4 - 1 - row;
+    if below > 0 && dice.percent(30) {
+        let row = row + dice.from_to(1, below as u64) as usize;
+        table[4 * row + 2] = table[4 * row];
+    }
+}
+
 // Small tables.
 
 fn small(dice: &mut Dice) -> Vec<u32> {
@@ -494,8 +571,26 @@ const WRITTEN: &[&[u32]] = &[
     &[41, 41, 1, 40, 1_000_000, 1_000_000, 1, 97_561],
     // Climbs one by one to 4,000,000.
     &[1, 1, 1, 1, 5, 5, 1, 1],
-    // WA(2) is in time and WE(2) is not.
+    // WA is in time and WE is not: at the last task.
     &[5, 5, 2, 1, 8, 8, 2, 1],
+    &[6, 6, 3, 1, 10, 10, 2, 1],
+    &[12, 12, 5, 1, 15, 15, 1, 2, 19, 19, 3, 1],
+    // The same at task 1, at task 1 and at task 2, and WA fails below.
+    &[23, 23, 8, 7, 19, 19, 4, 2, 21, 21, 4, 3],
+    &[20, 20, 4, 1, 13, 13, 4, 4, 17, 17, 1, 5],
+    &[12, 11, 5, 1, 19, 18, 4, 1, 17, 15, 2, 2],
+    // The same at task 1; then with hypertasks below that are too late: at task 2, at task 3, at both.
+    &[22, 21, 8, 2, 16, 16, 1, 4, 15, 15, 6, 3],
+    &[22, 21, 8, 2, 16, 7, 1, 4, 15, 15, 6, 3],
+    &[22, 21, 8, 2, 16, 16, 1, 4, 15, 5, 6, 3],
+    &[22, 21, 8, 2, 16, 7, 1, 4, 15, 5, 6, 3],
+    // The same at task 1, with no active period at task 2.
+    &[20, 20, 1, 5, 5, 5, 1, 4],
+    // Neither window is in time: at task 1, and at task 2.
+    &[2, 2, 2, 1],
+    &[5, 5, 1, 1, 4, 4, 3, 1],
+    // Of task 1 WA alone is too late, and of task 2 WE alone.
+    &[5, 4, 3, 1, 8, 8, 1, 1],
     // Everything at its largest, and at its least.
     &[1_000_000, 1_000_000, 1_000_000, 1_000_000],
     &[1_000_000, 1_000_000, 500_000, 500_000],

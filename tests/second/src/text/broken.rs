@@ -5,4 +5,5 @@
 
 pub type Text = fn(&[u8]) -> Vec<u8>;
 
+#[cfg(not(test))] // the tests have no use for them, and they take long to compile
 include!(concat!(env!("OUT_DIR"), "/broken_text.rs"));

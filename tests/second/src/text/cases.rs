@@ -73,6 +73,8 @@ fn no_script_has_no_tick_lines() {
 #[test]
 fn refused_tables_have_one_line() {
     assert_text(&plan(&[10, 8, 7, 2], &[(1, 0, 0)]), "REFUSE 7 1\n");
+    assert_text(&plan(&[5, 5, 2, 1, 8, 8, 2, 1], &[]), "REFUSE 19 2\n");
+    assert_text(&plan(&[23, 23, 8, 7, 19, 19, 4, 2, 21, 21, 4, 3], &[(1, 0, 0)]), "REFUSE 19 1\n");
     assert_text(&plan(&[5, 2, 1, 3], &[]), "REFUSE 6 1\n");
     assert_text(&plan(&[5, 5, 1, 6], &[]), "REFUSE 5 1\n");
     assert_text(&plan(&[10, 11, 1, 1], &[]), "REFUSE 3 1\n");

@@ -20,7 +20,7 @@ const FEWEST_TICKS: usize = 2_000_000;
 const WHO: [&str; 3] = ["nobody", "guest", "hypertask"];
 const MARKS: [&str; 3] = ["neither", "output", "budget used up"];
 /// The numbers that a start can be refused with.
-const OF_A_START: [u32; 7] = [1, 2, 3, 5, 6, 7, 18];
+const OF_A_START: [u32; 8] = [1, 2, 3, 5, 6, 7, 19, 18];
 
 #[derive(Default)]
 pub struct Tally {
@@ -154,7 +154,9 @@ impl Tally {
     /// Prints the tally and what is amiss, and answers whether nothing is.
     pub fn is_good(&self) -> bool {
         let unseen = ("damaged machines not answered with 8", self.damage_unseen);
-        is_good(&self.met(), &[unseen, ("different", self.different)])
+        let otherwise =
+            ("starts refused with another number", self.start_refused.others(&OF_A_START).total());
+        is_good(&self.met(), &[unseen, otherwise, ("different", self.different)])
     }
 }
 

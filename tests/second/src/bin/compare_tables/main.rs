@@ -4,6 +4,7 @@
 //!     compare_tables [SEED]               the library
 //!     compare_tables --self-test [SEED]   programs with one fault each: every one must be noticed
 
+mod guests;
 #[path = "../library.rs"]
 mod library;
 mod tally;

@@ -15,7 +15,7 @@ const FEWEST_LONG: usize = 50;
 
 /// The numbers that a plan or its table can be refused with: 1 and 4 come before or behind no
 /// plan file.
-const REFUSALS: [u32; 10] = [2, 3, 5, 6, 7, 13, 14, 15, 16, 17];
+const REFUSALS: [u32; 11] = [2, 3, 5, 6, 7, 19, 13, 14, 15, 16, 17];
 /// The numbers that a tick can be refused with in a run from a fresh start. A machine that has
 /// been started stays well formed, no script is 2^40 long, and a hypertask of an accepted table
 /// is done before its period is.
@@ -125,6 +125,7 @@ impl Tally {
 
     /// Prints the tally and what is amiss, and answers whether nothing is.
     pub fn is_good(&self) -> bool {
-        is_good(&self.met(), &[("different", self.different)])
+        let otherwise = ("refused with another number", self.refused.others(&REFUSALS).total());
+        is_good(&self.met(), &[otherwise, ("different", self.different)])
     }
 }
