@@ -3,6 +3,8 @@
 #
 #   tools/refusals.sh          writes them
 #   tools/refusals.sh check    says whether they stand there as they would be written
+#
+# Both say whether numbers and names are those of crates/refusals.
 set -euo pipefail
 unset CDPATH
 cd "$(dirname "$0")/.."
@@ -30,6 +32,15 @@ for_readme() {
     include/refusals.txt
 }
 
+# Number and name of each refusal: as the crate gives them, and as the file has them.
+in_the_crate() { sed -n 's/^ *Refusal::\([A-Za-z]*\)(_) => \([0-9]*\),$/\2 \1/p' crates/refusals/src/lib.rt; }
+in_the_file() { awk -F'|' '!/^#/ { print $1, $2 }' include/refusals.txt; }
+
+same_names() {
+  [[ -n $(in_the_crate) ]] || { echo "refusals: none found in crates/refusals/src/lib.rt" >&2; wrong=1; }
+  diff <(in_the_crate) <(in_the_file) >&2 || { echo "refusals: include/refusals.txt doesn't name what crates/refusals does" >&2; wrong=1; }
+}
+
 # A file with what stands between its two marks put in anew.
 with() {
   awk -v begin="$2" -v end="$3" -v part="$4" '
@@ -54,6 +65,7 @@ put() {
 word=${1:-write}
 [[ $# -le 1 && ($word == write || $word == check) ]] || { echo "usage: tools/refusals.sh [check]" >&2; exit 2; }
 wrong=0
+same_names
 put include/tollsalmon.h "/* from refusals.txt: */" "/* end of refusals.txt */" "$(for_c)"
 put README.md "<!-- from include/refusals.txt: -->" "<!-- end of include/refusals.txt -->" "$(for_readme)"
 exit $wrong
