@@ -29,7 +29,8 @@ use Rattle.equations.specs.declared.Checked.the-variants.{Passed, Stoppe
 use Rattle.equations.specs.declared.Answer.{Answer}
 use Rattle.equations.specs.declared.Answer.the-variants.{Accepted, Refused}
 use Rattle.equations.proofs.Jobs.{guest-7, guest-19, window-same}
-use Rattle.equations.proofs.Checks.{stopped-passed, stopped-inj, table-stopped, results-fit, entered, refused-7-or-19, Rowwise, rows-start, rows-next, rows-stop}
+use Rattle.equations.proofs.Checks.{stopped-passed, stopped-inj, table-stopped, results-fit, entered, refused-7-or-19}
+use Rattle.equations.proofs.Checks.{Rowwise, rows-start, rows-next, rows-stop}
 use Rattle.equations.proofs.Exactly.{WA-found, WA-finds, R, G, table-sound, table-complete, hypertasks-sound, hypertasks-complete}
 use Rattle.equations.proofs.Exactly.{pass-numbers, guest-sound, guest-complete, stop-if-passed}
 use Rattle.equations.proofs.Refused.{NoActive, LateJob, OnlyWA, FirstFailing, response-fails, guest-fails, and-then-refused, refused-from-5}

@@ -1,4 +1,5 @@
--- Document 01's table of refusals and document 02's lines after it, written down once more in their order: "Given when" as the case that stands for it, beside "No." and "Place".
+-- Document 01's table of refusals and document 02's lines after it, written down once more in their order: "Given when" as the case that stands
+-- for it, beside "No." and "Place".
 -- So the same two numbers swapped in the definition and in the code are refused. Assumes nothing.
 use Prim.Native.Nat.{ℕ}
 use mathlib.Core.Path.{_≡_, refl}
