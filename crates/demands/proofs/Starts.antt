@@ -6,8 +6,7 @@ use Rattle.least.specs.Lists.{listOf}
 use Rattle.refusals.specs.declared.Refusal.the-variants.{NoActivePeriod}
 use Rattle.equations.specs.Hypertask.{B, demand, activeSide, activePeriod, releases, startDemand, startSide, start, jobResponse, worst, response, E}
 use Rattle.equations.specs.Guest.{begunByHypertask, begunByGuest, bound, below, F, windowSide, WA, WE, guest}
-use Rattle.equations.specs.Analysis.{tableCheck, rowByRow, hypertaskCheck, guestCheck, solved}
-use Rattle.equations.specs.Cases.{says}
+use Rattle.equations.specs.Analysis.{tableCheck, rowByRow, hypertaskCheck, guestCheck, solved, says}
 use Rattle.equations.specs.declared.Answer.the-variants.{Refused}
 use Rattle.equations.proofs.Cases.{t7, p7-check}
 use Rattle.machine.specs.Rows.{mapFrom}

@@ -20,9 +20,8 @@ use Rattle.equations.specs.Table.{rows, T, C, K}
 use Rattle.equations.specs.Hypertask.{response, E}
 use Rattle.equations.specs.Guest.{windowSide, WA, WE, guest}
 use Rattle.equations.specs.Analysis.{stopIf}
-use Rattle.equations.specs.Analysis.{tableCheck, resultsCheck, hypertaskCheck, guestCheck, andThen, solved, analysis}
+use Rattle.equations.specs.Analysis.{tableCheck, resultsCheck, hypertaskCheck, guestCheck, andThen, solved, analysis, refuses, says}
 use Rattle.equations.specs.Solutions.{WindowsReached, NoWA, NoWE, GuestWindowFails, HypertaskWindowFails}
-use Rattle.equations.specs.Cases.{refuses, says}
 use Rattle.equations.specs.declared.Response.{Response}
 use Rattle.equations.specs.declared.Response.the-variants.{Is, Fails}
 use Rattle.equations.specs.declared.Checked.the-variants.{Passed, Stopped}
@@ -55,11 +54,11 @@ response-stops s i f e = ⊎-elim
     (response-fails s i f e)
 
 -- what the first row whose windows fail has before it
-pub record FromWindows (s : List ℕ) (lent : ℕ) (f : Refusal) : Type 0 where
-  pub shape : tableCheck s ≡ Passed
-  pub room : 3 * rows s ≤ lent
-  pub hypertasks : hypertaskCheck s ≡ Passed
-  pub first : FirstFailing (guest s) 0 (rows s) f
+record FromWindows (s : List ℕ) (lent : ℕ) (f : Refusal) : Type 0 where
+  shape : tableCheck s ≡ Passed
+  room : 3 * rows s ≤ lent
+  hypertasks : hypertaskCheck s ≡ Passed
+  first : FirstFailing (guest s) 0 (rows s) f
 
 from-windows : (s : List ℕ) (lent : ℕ) (f : Refusal) → 7 ≤ numberOf f → analysis s lent ≡ Refused f → FromWindows s lent f
 unfolding analysis resultsCheck
