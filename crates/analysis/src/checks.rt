@@ -9,7 +9,7 @@ use equations::Checked;
 use refusals::Refusal;
 
 // The first place of something, counted from 0.
-#[derive(Drop)]
+#[derive(Clone, Copy)]
 pub enum Place {
     Here(usize),
     Nowhere,

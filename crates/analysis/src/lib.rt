@@ -1,4 +1,6 @@
 // The analysis of a table: document 01, "Response equations", and refusals 1 to 7 and 19.
+#![tactic(auto)]
+
 mod checks;
 mod guest;
 mod hypertask;

@@ -1,4 +1,6 @@
 // The same for C and Rust: functions on numbers and slices, a slice passed as a pointer and a length.
+#![tactic(auto)]
+
 mod answers;
 mod files;
 pub mod state;

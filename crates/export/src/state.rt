@@ -7,14 +7,14 @@ ghost use Rattle.export.specs.State.{row_in, stray, unreadable, readable, head_o
 use machine::{Machine, Row, Stage};
 
 // The machine of lent numbers where it can be read, else the machine with no rows.
-#[derive(Drop)]
+#[derive(Clone, Copy)]
 pub struct Reading {
     pub ok: bool,
     pub machine: Machine,
 }
 
 // What comes before the rows, and how many of them are read.
-#[derive(Drop)]
+#[derive(Clone, Copy)]
 struct Head {
     ok: bool,
     places: usize,

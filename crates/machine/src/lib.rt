@@ -1,4 +1,6 @@
 // The machine that runs an accepted table tick by tick: document 01, "The tick rule". Its rule is specs/TickRule.antt.
+#![tactic(auto)]
+
 ghost use Rattle.std.specs.Prelude.{◌≡◌, true, cond, ◌||◌, ◌+◌, ◌-◌, ◌<◌, ◌≤◌};
 ghost use Rattle.machine.specs.Rows.{age, in_mask, with_stage, is_never, is_hyper, has_budget};
 ghost use Rattle.machine.specs.WellFormed.{in_limits, fields_fit, is_blank};
@@ -9,7 +11,7 @@ ghost use Rattle.machine.specs.OnePass.{refused_as, taken_with};
 use refusals::Refusal;
 
 // A task's stage, with its own data.
-#[derive(Drop)]
+#[derive(Clone, Copy)]
 pub enum Stage {
     Never,
     // arrival, used
@@ -21,7 +23,7 @@ pub enum Stage {
 }
 
 // A row: T, D, C, K, the enforcement offset E, and the task's stage.
-#[derive(Drop)]
+#[derive(Clone, Copy)]
 pub struct Row {
     pub t: u32,
     pub d: u32,
@@ -32,7 +34,7 @@ pub struct Row {
 }
 
 // The rows, how many there are, and the clock; places past the last row are zero and Never.
-#[derive(Drop)]
+#[derive(Clone, Copy)]
 pub struct Machine {
     pub rows: [Row; 32],
     pub count: usize,
@@ -40,7 +42,7 @@ pub struct Machine {
 }
 
 // Who ran in a tick: a task, from 1.
-#[derive(Drop)]
+#[derive(Clone, Copy)]
 pub enum Ran {
     Nobody,
     Guest(usize),
@@ -48,7 +50,7 @@ pub enum Ran {
 }
 
 // What the tick gave: an output, or the last tick of a guest's budget without one.
-#[derive(Drop)]
+#[derive(Clone, Copy)]
 pub enum Mark {
     Nothing,
     Output,
@@ -56,7 +58,7 @@ pub enum Mark {
 }
 
 // What a tick that was taken says; ignored: a signal was.
-#[derive(Drop)]
+#[derive(Clone, Copy)]
 pub struct Taken {
     pub ran: Ran,
     pub mark: Mark,
@@ -64,21 +66,21 @@ pub struct Taken {
 }
 
 // A tick is taken or refused.
-#[derive(Drop)]
+#[derive(Clone, Copy)]
 pub enum Answer {
     Taken(Taken),
     Refused(Refusal),
 }
 
 // The next machine, and what is said of the tick.
-#[derive(Drop)]
+#[derive(Clone, Copy)]
 pub struct Stepped {
     pub machine: Machine,
     pub answer: Answer,
 }
 
 // The next stage of the task that ran, and what the tick says of it.
-#[derive(Drop)]
+#[derive(Clone, Copy)]
 struct Outcome {
     stage: Stage,
     taken: Taken,
@@ -87,7 +89,7 @@ struct Outcome {
 // What the pass over the rows finds: whether a place isn't well formed, whether steps 1 and 2 change the row that was seen
 // last, and of each search the first place, 32 where there is none. The last two are about the tasks in the mask: one that
 // comes too soon, one that is Hyper.
-#[derive(Drop)]
+#[derive(Clone, Copy)]
 struct Seen {
     unfit: bool,
     moved: bool,
@@ -99,7 +101,7 @@ struct Seen {
 }
 
 // A tick is refused, or taken: the place of the task that runs, 32 for nobody.
-#[derive(Drop)]
+#[derive(Clone, Copy)]
 enum Judged {
     Refused(Refusal),
     Accepted(usize),

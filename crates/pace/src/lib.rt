@@ -1,4 +1,6 @@
 // Many ticks in one call, to take their time: the machine goes by value from tick to tick.
+#![tactic(auto)]
+
 ghost use Rattle.std.specs.Prelude.{◌≡◌, ℕ, ◌+◌, ◌≤◌};
 ghost use Rattle.pace.specs.Pace.{taken_sum, said_sum, ticks_sum, pace_of};
 

@@ -1,4 +1,6 @@
 // The plan file: document 01, "The plan file". Reader, bodies as values, writer.
+#![tactic(auto)]
+
 pub mod bodies;
 pub mod reader;
 pub mod writer;
@@ -19,21 +21,21 @@ const SCRIPT: usize = 2;
 const MOST_SECTIONS: usize = 2;
 
 // What the reader says of a file.
-#[derive(Drop)]
+#[derive(Clone, Copy)]
 pub enum Answer {
     Accepted,
     Refused(Refusal),
 }
 
 // What the writer says: the file's length, or why nothing was written.
-#[derive(Drop)]
+#[derive(Clone, Copy)]
 pub enum Writing {
     Written(usize),
     Refused(Refusal),
 }
 
 // One tick record of a script.
-#[derive(Drop)]
+#[derive(Clone, Copy)]
 pub struct Tick {
     pub mask: u32,
     pub signal: u8,
@@ -41,14 +43,14 @@ pub struct Tick {
 }
 
 // A record of a script, where there is one.
-#[derive(Drop)]
+#[derive(Clone, Copy)]
 pub enum Recorded {
     Record(Tick),
     Missing,
 }
 
 // What became of rows that were to be taken into lent numbers.
-#[derive(Drop)]
+#[derive(Clone, Copy)]
 pub enum Taken {
     // how many numbers were taken
     Numbers(usize),
@@ -59,7 +61,7 @@ pub enum Taken {
 }
 
 // An entry of the contents.
-#[derive(Drop)]
+#[derive(Clone, Copy)]
 struct Entry {
     pub kind: usize,
     pub offset: usize,
@@ -67,7 +69,7 @@ struct Entry {
 }
 
 // A question about an entry.
-#[derive(Drop)]
+#[derive(Clone, Copy)]
 enum Ask {
     WrongKind,
     WrongPlace,
@@ -76,7 +78,7 @@ enum Ask {
 }
 
 // The first place of which something is true, where there is one.
-#[derive(Drop)]
+#[derive(Clone, Copy)]
 enum Found {
     At(usize),
     Nothing,

@@ -1,4 +1,6 @@
 // The whole text of a plan's run: document 01, the end of "Cases".
+#![tactic(auto)]
+
 mod rows;
 mod script;
 mod totals;
@@ -17,7 +19,7 @@ use text::lines::{put_accept, put_refusal};
 // Lent bytes from which no text can be too long.
 const LONGEST: usize = 655360;
 
-#[derive(Drop)]
+#[derive(Clone, Copy)]
 pub enum Reported {
     // how many bytes were written
     Written(usize),

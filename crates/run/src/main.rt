@@ -1,5 +1,7 @@
 // Reads a plan from standard input and writes its run: document 01, "The run program". One byte more than the longest plan
 // is enough to see that a file is too long, however much follows.
+#![tactic(auto)]
+
 use report::Reported;
 
 fn main() {

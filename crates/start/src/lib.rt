@@ -1,4 +1,6 @@
 // A fresh machine from a table: document 01, "Starting a machine checks 1, 2, 3, 5, 6, 7", and 19 right after 7.
+#![tactic(auto)]
+
 ghost use Rattle.std.specs.Prelude.{◌≡◌, ◌+◌, ◌*◌, ◌-◌, ◌<◌, ◌≤◌, [], ◌++◌, length, replicate};
 ghost use Rattle.equations.specs.Table.{rows};
 ghost use Rattle.machine.specs.Rows.{no_row};
@@ -9,7 +11,7 @@ use equations::Answer;
 use machine::{Machine, Row, Stage};
 
 // The machine, and the number of its tasks or the refusal.
-#[derive(Drop)]
+#[derive(Clone, Copy)]
 pub struct Started {
     pub machine: Machine,
     pub answer: Answer,

@@ -1,5 +1,7 @@
 // Text in lent bytes. Each function puts its bytes from place `at` on, as far as the lent ones reach, and answers the
 // place after them, also past their end: so an empty slice tells how much room a text needs.
+#![tactic(auto)]
+
 pub mod lines;
 
 ghost use Rattle.std.specs.Prelude.{◌≡◌, [], ◌∷◌, ◌+◌, ◌*◌, ◌≤◌, min, length};

@@ -1,0 +1,17 @@
+use native.Mathlib.Omega.{arith}
+use Rattle.equations.specs.Guest.{begun_by_guest}
+use Rattle.analysis.proofs.Loops.{loads≤}
+use Rattle.analysis.proofs.guest.begun_by_guest.Goals as goal
+
+pub overflow_add-result : goal.overflow_add-result
+overflow_add-result c = let a = c in
+    let f = a.requires.0 in
+    omega (
+      arith,
+      loads≤ a.args.w a.args.t a.args.c f.some f.c≤ a.requires.1,
+      loads≤ c.less.result a.args.t a.args.k f.some f.k≤ (omega arith),
+    )
+
+pub returns : goal.returns
+unfolding begun_by_guest
+returns c = cc

@@ -1,0 +1,33 @@
+use mathlib.Core.Path.{◌≡◌, ap, ◌∙◌}
+use Prim.Native.Nat.{◌-◌, ◌≤◌}
+use native.Mathlib.Omega.{arith}
+use Rattle.least.specs.Sums.{sum}
+use Rattle.least.proofs.Sums.{sum_step}
+use Rattle.equations.specs.Guest.{bound}
+use Rattle.equations.proofs.Bounds.{bound≤, bounds≤}
+use Rattle.analysis.specs.Loops.{offsets_in}
+use borrow.Author.Rules.{rules}
+use Rattle.analysis.proofs.guest.bounds_above.Goals as goal
+
+pub loop-j-init : goal.loop-j-init
+unfolding sum
+loop-j-init c = search rules
+
+pub overflow_add-total : goal.overflow_add-total
+overflow_add-total c = let a = c in
+    let s = a.args.table.now in
+    let e = offsets_in a.args.es.now in
+    let j = c.loop-j.j in
+    omega (arith, bounds≤ s a.requires.0 e a.args.w j (omega arith) a.requires.3, bound≤ s a.requires.0 e a.args.w j (omega arith) a.requires.3)
+
+pub loop-j-preserved : goal.loop-j-preserved
+loop-j-preserved c = let a = c in (
+      omega arith,
+      sum_step (bound a.args.table.now (offsets_in a.args.es.now) a.args.w) _ _ _ c.loop-j.invariant.1
+          c.bound_of-total.ensures,
+    )
+
+pub returns : goal.returns
+returns c = let a = c in
+    let e : c.loop-j.j ≡ a.args.i = omega arith in
+    c.loop-j.invariant.1 ∙ ap (sum (bound a.args.table.now (offsets_in a.args.es.now) a.args.w)) e

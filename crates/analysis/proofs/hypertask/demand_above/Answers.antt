@@ -1,0 +1,27 @@
+use mathlib.Core.Path.{◌≡◌, ap, ◌∙◌}
+use Prim.Native.Nat.{◌-◌, ◌≤◌}
+use native.Mathlib.Omega.{arith}
+use Rattle.least.specs.Sums.{sum}
+use Rattle.least.proofs.Sums.{sum_step}
+use Rattle.equations.specs.Hypertask.{demand}
+use Rattle.equations.proofs.Bounds.{demand≤, demands≤}
+use borrow.Author.Rules.{rules}
+use Rattle.analysis.proofs.hypertask.demand_above.Goals as goal
+
+pub loop-j-init : goal.loop-j-init
+unfolding sum
+loop-j-init c = search rules
+
+pub overflow_add-total : goal.overflow_add-total
+overflow_add-total c = let a = c in
+    let s = a.args.table.now in
+    let j = c.loop-j.j in
+    omega (arith, demands≤ s a.requires.0 a.args.t j (omega arith) a.requires.2, demand≤ s a.requires.0 a.args.t j (omega arith) a.requires.2)
+
+pub loop-j-preserved : goal.loop-j-preserved
+loop-j-preserved c = let a = c in
+    (omega arith, sum_step (demand a.args.table.now a.args.t) _ _ _ c.loop-j.invariant.1 c.demand_of-total.ensures)
+
+pub returns : goal.returns
+returns c = let e : c.loop-j.j ≡ c.args.i = omega arith in
+    c.loop-j.invariant.1 ∙ ap (sum (demand _ _)) e

@@ -1,0 +1,38 @@
+use mathlib.Core.Option.{none, some}
+use mathlib.Core.Path.{◌≡◌, sym, ap, ◌∙◌}
+use Prim.Native.Nat.{ℕ, ◌+◌, ◌-◌}
+use native.Mathlib.Omega.{arith}
+use lib.ListN.{take, drop}
+use Rattle.plan.specs.declared.Entry.{Entry}
+use Rattle.plan.specs.declared.Ask.TheVariants.{OfKind}
+use Rattle.plan.specs.PlanFile.{first_entry}
+use Rattle.plan.proofs.Entries.{body_is, entry_in}
+use Rattle.plan.proofs.Tests.{found_some, found_none}
+use Rattle.plan.proofs.reader.body.Lts as lts
+use Rattle.plan.proofs.reader.body.Goals as goal
+
+-- the entry that was found
+entry_found : (c : lts.In-At)
+    → first_entry (OfKind c.args.kind)
+    c.args.file.now
+    ≡ some c.in-At.i
+entry_found c = found_some _ _ (sym c.in-At.is ∙ c.first_entry.ensures)
+
+pub returns-in_default : goal.returns-in_default
+returns-in_default c = let s = c in
+    let a = s.args in
+    sym (body_is a.file.now a.kind none (found_none _ (sym c.in_default.is ∙ s.first_entry.ensures)))
+
+pub entry-e-requires : goal.entry-e-requires
+entry-e-requires c = let a = c in
+    (a.requires.listed, entry_in a.args.file.now _ _ (entry_found c))
+
+pub returns : goal.returns
+returns c = let t = c in
+    let a = t.args in
+    let f = a.file.now in
+    let e = c.entry-e in
+    let z : e.result-1.offset + e.result-1.length - e.result-1.offset ≡ e.result-1.length = omega arith in
+    ap (λ (x : ℕ). take x (drop e.result-1.offset f)) z
+    ∙ ap (λ (x : Entry). take x.length (drop x.offset f)) e.ensures.0
+    ∙ sym (body_is f a.kind _ (entry_found t))
