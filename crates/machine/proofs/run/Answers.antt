@@ -2,9 +2,7 @@ use borrow.Author.Tests.{ltb-true}
 use Rattle.machine.proofs.run.Goals as goal
 
 pub run_guest-requires : goal.run_guest-requires
-run_guest-requires c = let g = c.s-1.given in
-    let s = c in
-    ltb-true g.0.1.0 s.args.r.c (rw g.1 at s.requires)
+run_guest-requires c = ltb-true c.in-Guest.u c.args.r.c (rw c.in-Guest.is at c.requires)
 
 pub returns-in-Never : goal.returns-in-Never
 returns-in-Never c = rw (c.in-Never.is, c.nobody.ensures)

@@ -12,6 +12,8 @@ use mathlib.Core.Logic.{⊎_elim}
 use mathlib.Core.Bool.{true, false}
 use mathlib.Core.Path.{◌≡◌, ◌∙◌, sym, ap}
 use Rattle.machine.proofs.Machine.step.Goals as goal
+use Rattle.machine.proofs.Machine.step.Goals.{then-w-2, else-w-2, then-place-lt32, else-place-lt32}
+use borrow.Author.Rules.{rules}
 
 pub returns-then-self-gt32 : goal.returns-then-self-gt32
 unfolding step_of
@@ -21,7 +23,7 @@ returns-then-self-gt32 c = let a = c.args in
 pub loop-i-init : goal.loop-i-init
 loop-i-init c = let s = c in
     let m = s.args.self in
-    let l : length m.rows ≡ 32 = sym (length-map m.rows _) ∙ s.is_well_formed.0.1.1.0.1.0.1 in
+    let l : length m.rows ≡ 32 = c.well_formed.0.1.1.0.1.0.1 in
     (omega arith, omega arith, l, rw c.nothing-w.ensures (pass_begins m s.args.mask l c.if-self-gt32.false))
 
 pub returns-then-w : goal.returns-then-w
@@ -47,22 +49,23 @@ loop-i-preserved c = let p = c in
     let s = c.see_row-w in
     let e = s.ensures ∙ ap (λ r. row_seen m.clock a.mask i r w) same in
     let fits = c.if-w.false in
-    ⊎_elim
-    (λ x.
-    let f = x.1.ensures ∙ ap (turned_row m.clock a.mask i) same in
-    rw x.2 (
-      omega arith,
-      p.loop-i.invariant.1,
-      simp length-set p.loop-i.invariant.2,
-      pass_stores m a.mask i w p.loop-i.next (omega arith) v (omega arith) s.result e fits x.1.result x.0.taken f,
-    ))
-    (λ x. rw x.1 (
-      omega arith,
-      p.loop-i.invariant.1,
-      p.loop-i.invariant.2,
-      pass_keeps m a.mask i w p.loop-i.next (omega arith) v (omega arith) s.result e fits x.0.left,
-    ))
-    c.if-w-2.branch
+    elim c.if-w-2.branch [
+      then-w-2 x ↦
+        let f = x.turn.ensures ∙ ap (turned_row m.clock a.mask i) same in
+        rw x.next-is (
+          omega arith,
+          p.loop-i.invariant.1,
+          simp length-set p.loop-i.invariant.2,
+          pass_stores m a.mask i w p.loop-i.next (omega arith) v (omega arith) s.result e fits x.turn.result x.if-w-2.true f,
+        )
+    | else-w-2 x ↦
+        rw x.next-is (
+          omega arith,
+          p.loop-i.invariant.1,
+          p.loop-i.invariant.2,
+          pass_keeps m a.mask i w p.loop-i.next (omega arith) v (omega arith) s.result e fits x.if-w-2.false,
+        )
+    ]
 
 pub loop-i-2-init : goal.loop-i-2-init
 loop-i-2-init c = let v = c.loop-i.invariant in
@@ -104,9 +107,8 @@ returns-in-Refused c = let v = c in
     let a = p.args in
     let z : v.loop-i-2.i ≡ 32 = omega arith in
     let done : Passing a.self a.mask 32 p.loop-i.w p.loop-i.next = rw z at v.loop-i-2.invariant.3 in
-    let g = c.refusal-1.given in
-    let j = sym c.judge.ensures ∙ g.1 in
-    rw (judged_refused a.self a.mask p.loop-i.w p.loop-i.next done g.0.0 j) c.refuse-in-Refused.ensures
+    let j = sym c.in-Refused.ensures in
+    rw (judged_refused a.self a.mask p.loop-i.w p.loop-i.next done c.in-Refused.refusal j) c.refuse-in-Refused.ensures
 
 pub run-o-requires : goal.run-o-requires
 run-o-requires c = let v = c in
@@ -114,9 +116,8 @@ run-o-requires c = let v = c in
     let a = p.args in
     let z : v.loop-i-2.i ≡ 32 = omega arith in
     let done : Passing a.self a.mask 32 p.loop-i.w p.loop-i.next = rw z at v.loop-i-2.invariant.3 in
-    let g = c.place-1.given in
-    let j = sym c.judge.ensures ∙ g.1 in
-    may_run a.self a.mask p.loop-i.w p.loop-i.next done g.0.0 j c.if-place-lt32.true
+    let j = sym c.in-Accepted.ensures in
+    may_run a.self a.mask p.loop-i.w p.loop-i.next done c.in-Accepted.place j c.if-place-lt32.true
 
 pub advance-requires : goal.advance-requires
 advance-requires c = let v = c in
@@ -124,9 +125,8 @@ advance-requires c = let v = c in
     let a = p.args in
     let z : v.loop-i-2.i ≡ 32 = omega arith in
     let done : Passing a.self a.mask 32 p.loop-i.w p.loop-i.next = rw z at v.loop-i-2.invariant.3 in
-    let g = c.place-1.given in
-    let j = sym c.judge.ensures ∙ g.1 in
-    room a.self a.mask p.loop-i.w p.loop-i.next done g.0.0 j
+    let j = sym c.in-Accepted.ensures in
+    room a.self a.mask p.loop-i.w p.loop-i.next done c.in-Accepted.place j
 
 pub returns-in-Accepted : goal.returns-in-Accepted
 unfolding step_of taken
@@ -138,11 +138,12 @@ returns-in-Accepted c = let v = c in
     let m = a.self in
     let w = p.loop-i.w in
     let next = p.loop-i.next in
-    let g = c.place-1.given in
-    let j = sym c.judge.ensures ∙ g.1 in
-    let yes = ok m a.mask w next done g.0.0 j in
-    let rows = turned_rows m a.mask w next done g.0.0 j in
-    ⊎_elim
-    (λ x. c.advance.ensures ∙ rw (x.5, x.6, yes, runs_at m a.mask w next done g.0.0 j x.0.taken, x.3.ensures, x.2.ensures, rows))
-    (λ x. c.advance.ensures ∙ rw (x.1, x.2, yes, runs_none m a.mask w next done g.0.0 j x.0.left, c.nobody-taken.ensures, rows))
-    c.if-place-lt32.branch
+    let j = sym c.in-Accepted.ensures in
+    let yes = ok m a.mask w next done c.in-Accepted.place j in
+    let rows = turned_rows m a.mask w next done c.in-Accepted.place j in
+    elim c.if-place-lt32.branch [
+      then-place-lt32 x ↦
+        c.advance.ensures ∙ rw (x.next-is, x.taken-is, yes, runs_at m a.mask w next done c.in-Accepted.place j x.if-place-lt32.true, x.staged.ensures, x.run-o.ensures, rows)
+    | else-place-lt32 x ↦
+        c.advance.ensures ∙ rw (x.next-is, x.taken-is, yes, runs_none m a.mask w next done c.in-Accepted.place j x.if-place-lt32.false, c.nobody-taken.ensures, rows)
+    ]
