@@ -14,7 +14,7 @@ use Rattle.analysis.proofs.solve.Goals as goal
 
 -- R and E of all rows are there
 filled : (c : In_default) → Filled c.args.table.now
-    c.hypertasks.new.1.0 c.hypertasks.new.1.1.0 (rows c.args.table.now)
+    c.hypertasks.new.rs c.hypertasks.new.es (rows c.args.table.now)
 filled c = c.hypertasks.ensures.filled c.in_default.is
 
 hypertasks_pass : (c : In_default) → hypertask_check c.args.table.now ≡ Passed
@@ -23,7 +23,7 @@ hypertasks_pass c = sym c.hypertasks.ensures.value ∙ c.in_default.is
 -- and G
 guests_filled : (c : In_default-guests)
     → GuestsFilled c.args.table.now
-    c.guests.new.1.1.0
+    c.guests.new.gs
     (rows c.args.table.now)
 guests_filled c = c.guests.ensures.guests_filled c.in_default-guests.is
 

@@ -37,4 +37,4 @@ returns c = let a = c in
     let we : WE s i ≡ some e = found_some (WE s i) _ (sym at-e.in-At-window_begun_by_hypertask.is ∙ at-e.window_begun_by_hypertask.ensures) in
     let o : c.cell-2.result ≡ E s i = c.cell-2.ensures ∙ a.requires.1.at i a.requires.2 in
     let m : c.larger.result ≡ max at-e.in-At.a (e - (T s i - E s i)) = omega arith in
-    ap Is m ∙ sym (guest_is s i _ _ (guest_begins at-e) we)
+    ap Is m ∙ sym (guest_is s i _ _ (guest_begins (goal.at.returns c).In-At) we)

@@ -46,17 +46,15 @@ worst_of-requires c = let a = c in
     )
 
 pub returns-in_default-worst_of : goal.returns-in_default-worst_of
-returns-in_default-worst_of c = let at = c in
-    let a = at in
+returns-in_default-worst_of c = let a = c in
     let s = a.args.table.now in
     let i = a.args.i in
-    sym (response_6 s i _ (period at) (ap (worst s i) (sym (jobs at)) ∙ found_none (worst s i _) (sym c.in_default-worst_of.is
+    sym (response_6 s i _ (period (goal.at.returns-in_default-worst_of c).In-At) (ap (worst s i) (sym (jobs (goal.at.returns-in_default-worst_of c).After-rounded_up-jobs)) ∙ found_none (worst s i _) (sym c.in_default-worst_of.is
     ∙ c.worst_of.ensures)))
 
 pub returns : goal.returns
-returns c = let at = c in
-    let a = at in
+returns c = let a = c in
     let s = a.args.table.now in
     let i = a.args.i in
-    sym (response_is s i _ _ (period at) (ap (worst s i) (sym (jobs at))
+    sym (response_is s i _ _ (period (goal.at.returns c).In-At) (ap (worst s i) (sym (jobs (goal.at.returns c).After-rounded_up-jobs))
     ∙ found_some (worst s i _) _ (sym c.in-At-worst_of.is ∙ c.worst_of.ensures)))

@@ -10,13 +10,13 @@ use Rattle.analysis.proofs.hypertask.start_after.Goals.{After-cell-2}
 use Rattle.analysis.proofs.hypertask.start_after.Goals as goal
 
 -- (q − 1)·T and (q − 1)·K
-back : (c : After-cell-2) → c.args * c.cell-2.result
-    ≡ c.args * T c.args.table.now c.args.i
-back c = ap (λ (x : ℕ). c.args * x) c.cell-2.ensures
+back : (c : After-cell-2) → c.args.before * c.cell-2.result
+    ≡ c.args.before * T c.args.table.now c.args.i
+back c = ap (λ (x : ℕ). c.args.before * x) c.cell-2.ensures
 
-earlier : (c : After-cell-2) → c.args * c.cell-k.result
-    ≡ c.args * K c.args.table.now c.args.i
-earlier c = ap (λ (x : ℕ). c.args * x) c.cell-k.ensures
+earlier : (c : After-cell-2) → c.args.before * c.cell-k.result
+    ≡ c.args.before * K c.args.table.now c.args.i
+earlier c = ap (λ (x : ℕ). c.args.before * x) c.cell-k.ensures
 
 pub overflow_mul-room : goal.overflow_mul-room
 overflow_mul-room c = omega (arith, back (goal.at.overflow_mul-room c).After-cell-2)
@@ -35,7 +35,7 @@ overflow_mul-before c = let a = c in
     omega (
       arith,
       earlier (goal.at.overflow_mul-before c).After-cell-2,
-      own≤ s a.requires.0 a.args a.args.i a.requires.1 (jobs≤ s a.requires.0 a.args a.args.i
+      own≤ s a.requires.0 a.args.before a.args.i a.requires.1 (jobs≤ s a.requires.0 a.args.before a.args.i
           a.requires.1 a.requires.3),
     )
 
@@ -45,7 +45,7 @@ overflow_add-b c = let a = c in
     omega (
       arith,
       earlier (goal.at.overflow_add-b c).After-cell-2,
-      own≤ s a.requires.0 a.args a.args.i a.requires.1 (jobs≤ s a.requires.0 a.args a.args.i a.requires.1 a.requires.3),
+      own≤ s a.requires.0 a.args.before a.args.i a.requires.1 (jobs≤ s a.requires.0 a.args.before a.args.i a.requires.1 a.requires.3),
       B≤ s a.requires.0 a.args.i a.requires.1,
     )
 
@@ -53,7 +53,7 @@ pub seek_start-requires : goal.seek_start-requires
 seek_start-requires c = let a = c in
     let s = a.args.table.now in
     let i = a.args.i in
-    let own = own≤ s a.requires.0 a.args i a.requires.1 (jobs≤ s a.requires.0 a.args i a.requires.1 a.requires.3) in (
+    let own = own≤ s a.requires.0 a.args.before i a.requires.1 (jobs≤ s a.requires.0 a.args.before i a.requires.1 a.requires.3) in (
       a.requires.0,
       a.requires.1,
       omega (arith, earlier (goal.at.seek_start-requires c).After-cell-2, own, B≤ s a.requires.0 i a.requires.1),
@@ -64,7 +64,7 @@ pub returns : goal.returns
 returns c = let a = c in
     let s = a.args.table.now in
     let i = a.args.i in
-    let own : a.args.b + a.args * c.cell-k.result
-    ≡ B s i + a.args * K s i = omega (arith, earlier (goal.at.returns c).After-cell-2) in
-    let end : c.less.result ≡ D s i + a.args * T s i + 1 - K s i = omega (arith, back (goal.at.returns c).After-cell-2) in
-    c.seek_start.ensures ∙ ap found_of (start_is s i a.args _ _ own end)
+    let own : a.args.b + a.args.before * c.cell-k.result
+    ≡ B s i + a.args.before * K s i = omega (arith, earlier (goal.at.returns c).After-cell-2) in
+    let end : c.less.result ≡ D s i + a.args.before * T s i + 1 - K s i = omega (arith, back (goal.at.returns c).After-cell-2) in
+    c.seek_start.ensures ∙ ap found_of (start_is s i a.args.before _ _ own end)

@@ -13,7 +13,7 @@ use Rattle.analysis.proofs.results.guests.Goals.{In-Is}
 use Rattle.analysis.proofs.results.guests.Goals as goal
 
 -- the response that was found
-found : (c : In-Is invariant_loop decreases_loop) → guest c.args.table.now
+found : (c : In-Is) → guest c.args.table.now
     c.loop-i.i ≡ Is c.in-Is.g
 found c = sym c.guest_of.ensures ∙ c.in-Is.is
 
@@ -34,13 +34,13 @@ pub overflow_cast-gs : goal.overflow_cast-gs
 overflow_cast-gs c = let a = c in
     let s = a.args.table.now in
     let i = c.loop-i.i in
-    omega (arith, guest≤ s i _ (found c), E≤D s i, D≤ s a.requires.0 i (omega arith), T≤ s a.requires.0 i (omega arith))
+    omega (arith, guest≤ s i _ (found (goal.at.overflow_cast-gs c).In-Is), E≤D s i, D≤ s a.requires.0 i (omega arith), T≤ s a.requires.0 i (omega arith))
 
 pub loop-i-preserved : goal.loop-i-preserved
 loop-i-preserved c = let a = c in
     let s = a.args.table.now in
     let l = c.loop-i in
-    (rows_next (guest s) _ l.i _ l.invariant.0 (omega arith) (found c), guests_more s l.gs l.i _ l.invariant.1 (omega arith) (found c))
+    (rows_next (guest s) _ l.i _ l.invariant.0 (omega arith) (found (goal.at.loop-i-preserved c).In-Is), guests_more s l.gs l.i _ l.invariant.1 (omega arith) (found (goal.at.loop-i-preserved c).In-Is))
 
 pub returns : goal.returns
 unfolding guest_check

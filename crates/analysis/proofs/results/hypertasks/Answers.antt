@@ -13,7 +13,7 @@ use Rattle.analysis.proofs.results.hypertasks.Goals.{In-Is}
 use Rattle.analysis.proofs.results.hypertasks.Goals as goal
 
 -- the response that was found
-found : (c : In-Is invariant_loop decreases_loop) → response c.args.table.now
+found : (c : In-Is) → response c.args.table.now
     c.loop-i.i ≡ Is c.in-Is.r
 found c = sym c.response_of.ensures ∙ c.in-Is.is
 
@@ -34,11 +34,11 @@ pub overflow_cast-rs : goal.overflow_cast-rs
 overflow_cast-rs c = let a = c in
     let s = a.args.table.now in
     let i = c.loop-i.i in
-    omega (arith, response≤ s i _ (found c), D≤ s a.requires.0 i (omega arith))
+    omega (arith, response≤ s i _ (found (goal.at.overflow_cast-rs c).In-Is), D≤ s a.requires.0 i (omega arith))
 
 pub overflow_sub-es : goal.overflow_sub-es
 overflow_sub-es c = let s = c.args.table.now in
-    omega (arith, response≤ s c.loop-i.i _ (found c))
+    omega (arith, response≤ s c.loop-i.i _ (found (goal.at.overflow_sub-es c).In-Is))
 
 pub overflow_cast-es : goal.overflow_cast-es
 overflow_cast-es c = let a = c in
@@ -48,7 +48,7 @@ pub loop-i-preserved : goal.loop-i-preserved
 loop-i-preserved c = let a = c in
     let s = a.args.table.now in
     let l = c.loop-i in
-    let f = found c in
+    let f = found (goal.at.loop-i-preserved c).In-Is in
     (rows_next (response s) _ l.i _ l.invariant.0 (omega arith) f, rw c.cell-d.ensures (filled_more s l.rs l.es l.i _ l.invariant.1 (omega arith) f))
 
 pub returns : goal.returns
