@@ -8,11 +8,11 @@ use Rattle.plan.specs.declared.Ask.TheVariants.{OfKind}
 use Rattle.plan.specs.PlanFile.{first_entry}
 use Rattle.plan.proofs.Entries.{body_is, entry_in}
 use Rattle.plan.proofs.Tests.{found_some, found_none}
-use Rattle.plan.proofs.reader.body.Lts as lts
+use Rattle.plan.proofs.reader.body.Goals.{In-At}
 use Rattle.plan.proofs.reader.body.Goals as goal
 
 -- the entry that was found
-entry_found : (c : lts.In-At)
+entry_found : (c : In-At)
     → first_entry (OfKind c.args.kind)
     c.args.file.now
     ≡ some c.in-At.i
@@ -25,14 +25,14 @@ returns-in_default c = let s = c in
 
 pub entry-e-requires : goal.entry-e-requires
 entry-e-requires c = let a = c in
-    (a.requires.listed, entry_in a.args.file.now _ _ (entry_found c))
+    (a.requires.listed, entry_in a.args.file.now _ _ (entry_found (goal.at.entry-e-requires c).In-At))
 
 pub returns : goal.returns
 returns c = let t = c in
     let a = t.args in
     let f = a.file.now in
     let e = c.entry-e in
-    let z : e.result-1.offset + e.result-1.length - e.result-1.offset ≡ e.result-1.length = omega arith in
-    ap (λ (x : ℕ). take x (drop e.result-1.offset f)) z
+    let z : e.result.offset + e.result.length - e.result.offset ≡ e.result.length = omega arith in
+    ap (λ (x : ℕ). take x (drop e.result.offset f)) z
     ∙ ap (λ (x : Entry). take x.length (drop x.offset f)) e.ensures.0
-    ∙ sym (body_is f a.kind _ (entry_found t))
+    ∙ sym (body_is f a.kind _ (entry_found (goal.at.returns c).In-At))

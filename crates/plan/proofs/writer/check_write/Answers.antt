@@ -9,13 +9,13 @@ use Rattle.plan.specs.PlanFile.{first_wrong_record}
 use Rattle.plan.specs.Refuse.{answer_of}
 use Rattle.plan.proofs.Written.{stop_table, stop_eights, stop_record, stop_total, stop_room, go_write, table_right}
 use Rattle.plan.proofs.Tests.{found_some, found_none}
-use Rattle.plan.proofs.writer.check_write.Lts as lts
+use Rattle.plan.proofs.writer.check_write.Goals.{Else-wrong_table, In_default}
 use Rattle.plan.proofs.writer.check_write.Goals as goal
 
-table_fine : (c : lts.Else-wrong_table) → wrong_table (length c.args.table.now) ≡ false
+table_fine : (c : Else-wrong_table) → wrong_table (length c.args.table.now) ≡ false
 table_fine c = sym c.wrong_table.ensures ∙ c.if-wrong_table.false
 
-records_fine : (c : lts.In_default) → first_wrong_record c.args.script.now ≡ none
+records_fine : (c : In_default) → first_wrong_record c.args.script.now ≡ none
 records_fine c = found_none _ (sym c.in_default.is ∙ c.first_wrong_record.ensures)
 
 pub returns-then-wrong_table : goal.returns-then-wrong_table
@@ -24,20 +24,20 @@ returns-then-wrong_table c = let a = c.args in
 
 pub returns-then-script-ne0 : goal.returns-then-script-ne0
 returns-then-script-ne0 c = let a = c.args in
-    ap answer_of (sym (stop_eights a.table.now a.script.now a.room (table_fine c) c.if-script-ne0.true))
+    ap answer_of (sym (stop_eights a.table.now a.script.now a.room (table_fine (goal.at.returns-then-script-ne0 c).Else-wrong_table) c.if-script-ne0.true))
 
 pub returns-in-At : goal.returns-in-At
 returns-in-At c = let t = c in
     let a = t.args in
     ap answer_of
     (sym
-    (stop_record a.table.now a.script.now a.room _ (table_fine t) (omega arith)
+    (stop_record a.table.now a.script.now a.room _ (table_fine (goal.at.returns-in-At c).Else-wrong_table) (omega arith)
     (found_some _ _ (sym c.in-At.is ∙ c.first_wrong_record.ensures))))
 
 pub file_length-need-requires : goal.file_length-need-requires
 file_length-need-requires c = let t = c in
     let a = t in
-    omega (arith, table_right a.args.table.now a.args.script.now a.args.room (table_fine t), a.well_formed)
+    omega (arith, table_right a.args.table.now a.args.script.now a.args.room (table_fine (goal.at.file_length-need-requires c).Else-wrong_table), a.well_formed)
 
 pub returns-then-wrong_length : goal.returns-then-wrong_length
 returns-then-wrong_length c = let w = c in
@@ -45,7 +45,7 @@ returns-then-wrong_length c = let w = c in
     let a = t.args in
     ap answer_of
     (sym
-    (stop_total a.table.now a.script.now a.room _ c.file_length_lem.ensures (table_fine t) (omega arith) (records_fine w)
+    (stop_total a.table.now a.script.now a.room _ c.file_length-need.ensures (table_fine (goal.at.returns-then-wrong_length c).Else-wrong_table) (omega arith) (records_fine (goal.at.returns-then-wrong_length c).In_default)
     (sym c.wrong_length.ensures ∙ c.if-wrong_length.true)))
 
 pub returns-then-room-need : goal.returns-then-room-need
@@ -55,7 +55,7 @@ returns-then-room-need c = let l = c in
     let a = t.args in
     ap answer_of
     (sym
-    (stop_room a.table.now a.script.now a.room _ l.file_length_lem.ensures (table_fine t) (omega arith) (records_fine w)
+    (stop_room a.table.now a.script.now a.room _ l.file_length-need.ensures (table_fine (goal.at.returns-then-room-need c).Else-wrong_table) (omega arith) (records_fine (goal.at.returns-then-room-need c).In_default)
     (sym l.wrong_length.ensures ∙ l.if-wrong_length.false) (lt-ltb _ _ c.if-room-need.true)))
 
 pub returns : goal.returns
@@ -65,5 +65,5 @@ returns c = let l = c in
     let a = t.args in
     ap answer_of
     (sym
-    (go_write a.table.now a.script.now a.room _ l.file_length_lem.ensures (table_fine t) (omega arith) (records_fine w)
+    (go_write a.table.now a.script.now a.room _ l.file_length-need.ensures (table_fine (goal.at.returns c).Else-wrong_table) (omega arith) (records_fine (goal.at.returns c).In_default)
     (sym l.wrong_length.ensures ∙ l.if-wrong_length.false) (le-ltb _ _ c.if-room-need.false)))

@@ -22,8 +22,8 @@ returns c = let p3 = c in
     let n = p1 in
     let a = n.args in
     let x = n.section_count-count.result in
-    three_pieces a.output-1.now 0 4 16 (bytes_of x) (entry_bytes 1 (4 + 12 * x) (4 * a.m)) (optional_bytes 2 (4 + 12 * x + 4 * a.m) a.n)
+    three_pieces a.output.now 0 4 16 (bytes_of x) (entry_bytes 1 (4 + 12 * x) (4 * a.m)) (optional_bytes 2 (4 + 12 * x + 4 * a.m) a.n)
     p1.put_number.ensures p2.put_entry.ensures p3.put_optional.ensures (omega arith) (omega arith)
     ∙ ap
-    (λ (y : ℕ). sets a.output-1.now 0 (bytes_of y ++ entry_bytes 1 (4 + 12 * y) (4 * a.m) ++ optional_bytes 2 (4 + 12 * y + 4 * a.m) a.n))
+    (λ (y : ℕ). sets a.output.now 0 (bytes_of y ++ entry_bytes 1 (4 + 12 * y) (4 * a.m) ++ optional_bytes 2 (4 + 12 * y + 4 * a.m) a.n))
     n.section_count-count.ensures.0

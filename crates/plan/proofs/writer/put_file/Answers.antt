@@ -19,8 +19,8 @@ returns c = let p3 = c in
     let t = a.table.now in
     let s = a.script.now in
     let x = n.section_count.result in
-    three_pieces a.output-1.now 0 (4 + 12 * x) (4 + 12 * x + 4 * length t) (head_bytes (length t) (length s)) (table_bytes t) s
+    three_pieces a.output.now 0 (4 + 12 * x) (4 + 12 * x + 4 * length t) (head_bytes (length t) (length s)) (table_bytes t) s
     p1.put_contents.ensures p2.put_table.ensures p3.put_script.ensures
     (omega (arith, head_length (length t) (length s), n.section_count.ensures.0))
     (omega (arith, table_length t))
-    ∙ ap (sets a.output-1.now 0) (sym (plan_bytes t s))
+    ∙ ap (sets a.output.now 0) (sym (plan_bytes t s))

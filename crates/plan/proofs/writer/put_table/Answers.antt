@@ -22,7 +22,7 @@ loop-i-preserved c = let l = c.loop-i in
       omega arith,
       c.put_number.ensures
           ∙ ap (λ (x : List ℕ). sets x (a.at + 4 * l.i) (bytes_of (get_or a.table.now l.i 0))) l.invariant.2
-          ∙ table_step a.output-1.now a.at a.table.now l.i (omega arith),
+          ∙ table_step a.output.now a.at a.table.now l.i (omega arith),
       c.put_number.auto.0 ∙ l.invariant.3,
     )
 
@@ -31,5 +31,5 @@ returns c = let a = c.args in
     let t = a.table.now in
     let e : c.loop-i.i ≡ length t = omega arith in
     c.loop-i.invariant.2
-    ∙ ap (λ (x : ℕ). sets a.output-1.now a.at (table_bytes (take x t))) e
-    ∙ ap (λ (x : List ℕ). sets a.output-1.now a.at (table_bytes x)) (take-length t)
+    ∙ ap (λ (x : ℕ). sets a.output.now a.at (table_bytes (take x t))) e
+    ∙ ap (λ (x : List ℕ). sets a.output.now a.at (table_bytes x)) (take-length t)
