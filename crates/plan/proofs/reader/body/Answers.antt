@@ -27,6 +27,12 @@ pub entry-e-requires : goal.entry-e-requires
 entry-e-requires c = let a = c in
     (a.requires.listed, entry_in a.args.file.now _ _ (entry_found (goal.at.entry-e-requires c).In-At))
 
+pub slice_bounds-result-end-2 : goal.slice_bounds-result-end-2
+slice_bounds-result-end-2 c =
+    let t = (goal.at.slice_bounds-result-end-2 c).In-At in
+    let e = ap (λ (x : Entry). x.offset + x.length) c.entry-e.ensures.0 in
+    omega (arith, e, c.requires.within c.in-At.i (entry_in c.args.file.now _ _ (entry_found t)))
+
 pub returns : goal.returns
 returns c = let t = c in
     let a = t.args in

@@ -1,14 +1,15 @@
+use mathlib.Core.List.{List}
 use mathlib.Core.Option.{Option, none, some}
 use mathlib.Core.Path.{◌≡◌, sym, ap, ◌∙◌}
 use Prim.Native.Nat.{ℕ}
 use native.Mathlib.Omega.{arith}
 use Rattle.refusals.specs.declared.Refusal.TheVariants.{RecordBytes}
 use Rattle.plan.specs.declared.Ask.TheVariants.{WrongKind, WrongPlace, WrongSize}
-use Rattle.plan.specs.PlanFile.{first_entry, first_wrong_record, entries_refusal}
+use Rattle.plan.specs.PlanFile.{first_entry, first_wrong_record, entries_refusal, body_of, sections_of, script_kind}
 use Rattle.plan.specs.Refuse.{refuse_at, answer_of}
 use Rattle.plan.proofs.Entries.{stop_kind, stop_place, stop_size, go_records, entry_in, placed}
 use Rattle.plan.proofs.Tests.{found_some, found_none}
-use Rattle.plan.proofs.reader.check_entries.Goals.{After-first_wrong_record, In-At, In-At-first_entry, In-At-first_entry-2, In_default, In_default-first_entry, In_default-first_entry-2}
+use Rattle.plan.proofs.reader.check_entries.Goals.{In-At, In-At-first_entry, In-At-first_entry-2, In_default, In_default-first_entry, In_default-first_entry-2}
 use Rattle.plan.proofs.reader.check_entries.Goals as goal
 
 -- what the questions answered, as the definition has them
@@ -37,18 +38,18 @@ no_size : (c : In_default-first_entry-2)
 no_size c = found_none _ (sym c.in_default-first_entry-2.is ∙ c.first_entry-3.ensures)
 
 -- the answer, once the script's records are looked at
-recorded : (c : After-first_wrong_record) (o : Option ℕ)
-    → first_wrong_record c.body-script.result.now ≡ o
-    → answer_of (refuse_at (λ r. RecordBytes r) o none)
-    ≡ answer_of (entries_refusal c.args.file.now)
-recorded c o e =
-    let s = c in
-    let p = s in
-    let k = p in
+recorded : (f s : List ℕ) (o : Option ℕ)
+    → first_entry WrongKind f ≡ none
+    → first_entry WrongPlace f ≡ none
+    → first_entry WrongSize f ≡ none
+    → s ≡ body_of script_kind (sections_of f)
+    → first_wrong_record s ≡ o
+    → answer_of (refuse_at (λ r. RecordBytes r) o none) ≡ answer_of (entries_refusal f)
+recorded f s o k p z b e =
     ap answer_of
     (sym
-    (go_records k.args.file.now (no_kind k) (no_place p) (no_size s)
-    ∙ ap (λ (x : Option ℕ). refuse_at (λ r. RecordBytes r) x none) (ap first_wrong_record (sym c.body-script.ensures) ∙ e)))
+    (go_records f k p z
+    ∙ ap (λ (x : Option ℕ). refuse_at (λ r. RecordBytes r) x none) (ap first_wrong_record (sym b) ∙ e)))
 
 pub overflow_add-result : goal.overflow_add-result
 overflow_add-result c = let a = c in
@@ -81,9 +82,15 @@ body-script-requires c = let p = c in
     placed a.args.file.now a.requires (no_place (goal.at.body-script-requires c).In_default-first_entry)
 
 pub returns-in-At-first_wrong_record : goal.returns-in-At-first_wrong_record
-returns-in-At-first_wrong_record c = let w = c in
-    recorded (goal.at.returns-in-At-first_wrong_record c).After-first_wrong_record (some c.in-At-first_wrong_record.r) (found_some _ _ (sym c.in-At-first_wrong_record.is ∙ w.first_wrong_record.ensures))
+returns-in-At-first_wrong_record c =
+    let t = goal.at.returns-in-At-first_wrong_record c in
+    recorded c.args.file.now _ (some c.in-At-first_wrong_record.r) (no_kind t.In_default) (no_place t.In_default-first_entry)
+    (no_size t.In_default-first_entry-2) c.body-script.ensures
+    (found_some _ _ (sym c.in-At-first_wrong_record.is ∙ c.first_wrong_record.ensures))
 
 pub returns : goal.returns
-returns c = let w = c in
-    recorded (goal.at.returns c).After-first_wrong_record none (found_none _ (sym c.in_default-first_wrong_record.is ∙ w.first_wrong_record.ensures))
+returns c =
+    let t = goal.at.returns c in
+    recorded c.args.file.now _ none (no_kind t.In_default) (no_place t.In_default-first_entry)
+    (no_size t.In_default-first_entry-2) c.body-script.ensures
+    (found_none _ (sym c.in_default-first_wrong_record.is ∙ c.first_wrong_record.ensures))

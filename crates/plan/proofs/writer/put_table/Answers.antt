@@ -13,7 +13,7 @@ unfolding table_bytes
 loop-i-init c = (refl, omega arith, refl, refl)
 
 pub overflow_cast-table : goal.overflow_cast-table
-overflow_cast-table c = omega (arith, c.shared_slice_known-in-loop-i-1.given c.loop-i.i)
+overflow_cast-table c = omega (arith, c.type_inv.table c.loop-i.i)
 
 pub loop-i-preserved : goal.loop-i-preserved
 loop-i-preserved c = let l = c.loop-i in
@@ -23,7 +23,7 @@ loop-i-preserved c = let l = c.loop-i in
       c.put_number.ensures
           ∙ ap (λ (x : List ℕ). sets x (a.at + 4 * l.i) (bytes_of (get_or a.table.now l.i 0))) l.invariant.2
           ∙ table_step a.output.now a.at a.table.now l.i (omega arith),
-      c.put_number.auto.0 ∙ l.invariant.3,
+      c.put_number.auto.output ∙ l.invariant.3,
     )
 
 pub returns : goal.returns
