@@ -1,3 +1,4 @@
+-- A byte of a slice is below 256. Assumes nothing.
 use mathlib.Core.Path.{refl}
 use native.Mathlib.Omega.{arith}
 use Rattle.plan.proofs.byte.Goals as goal

@@ -1,3 +1,4 @@
+-- 13 and 14 at place 0 are tests on two numbers; what passes them has its contents in the file. Assumes nothing.
 use mathlib.Core.Bool.{false}
 use mathlib.Core.Path.{◌≡◌, sym, ap, ◌∙◌}
 use Prim.Native.Nat.{ℕ}
@@ -28,14 +29,15 @@ pub number-requires : goal.number-requires
 number-requires c = ltb-false _ _ (or_inv _ _ (length_right (goal.at.number-requires c).Else-wrong_length)).0
 
 pub returns-then-wrong_count : goal.returns-then-wrong_count
-returns-then-wrong_count c = let f = c.args.file.now in
-    ap answer_of (sym (stop_count f (length_right (goal.at.returns-then-wrong_count c).Else-wrong_length) (sym (counted (goal.at.returns-then-wrong_count c).After-wrong_count) ∙ c.if-wrong_count.true)))
+returns-then-wrong_count c =
+    let t = goal.at.returns-then-wrong_count c in
+    ap answer_of (sym (stop_count c.args.file.now (length_right t.Else-wrong_length) (sym (counted t.After-wrong_count) ∙ c.if-wrong_count.true)))
 
 pub check_entries-requires : goal.check_entries-requires
 check_entries-requires c = listed c.args.file.now (sym (counted (goal.at.check_entries-requires c).After-wrong_count) ∙ c.if-wrong_count.false)
 
 pub returns : goal.returns
-returns c = let s = c in
-    let f = s.args.file.now in
+returns c =
+    let t = goal.at.returns c in
     c.check_entries.ensures
-    ∙ ap answer_of (sym (go_entries f (length_right (goal.at.returns c).Else-wrong_length) (sym (counted (goal.at.returns c).After-wrong_count) ∙ s.if-wrong_count.false)))
+    ∙ ap answer_of (sym (go_entries c.args.file.now (length_right t.Else-wrong_length) (sym (counted t.After-wrong_count) ∙ c.if-wrong_count.false)))

@@ -1,3 +1,4 @@
+-- What each question answered leads to its refusal or on to the next, in the order of the definition. Assumes nothing.
 use mathlib.Core.List.{List}
 use mathlib.Core.Option.{Option, none, some}
 use mathlib.Core.Path.{◌≡◌, sym, ap, ◌∙◌}
@@ -52,34 +53,37 @@ recorded f s o k p z b e =
     ∙ ap (λ (x : Option ℕ). refuse_at (λ r. RecordBytes r) x none) (ap first_wrong_record (sym b) ∙ e)))
 
 pub overflow_add-result : goal.overflow_add-result
-overflow_add-result c = let a = c in
-    omega (arith, a.requires, entry_in a.args.file.now _ _ (some_kind (goal.at.overflow_add-result c).In-At))
+overflow_add-result c =
+    let t = goal.at.overflow_add-result c in
+    omega (arith, c.requires, entry_in c.args.file.now _ _ (some_kind t.In-At))
 
 pub returns-in-At : goal.returns-in-At
-returns-in-At c = let a = c in
-    ap answer_of (sym (stop_kind a.args.file.now _ (some_kind (goal.at.returns-in-At c).In-At)))
+returns-in-At c =
+    ap answer_of (sym (stop_kind c.args.file.now _ (some_kind (goal.at.returns-in-At c).In-At)))
 
 pub overflow_add-result-in-At-first_entry : goal.overflow_add-result-in-At-first_entry
-overflow_add-result-in-At-first_entry c = let a = c in
-    omega (arith, a.requires, entry_in a.args.file.now _ _ (some_place (goal.at.overflow_add-result-in-At-first_entry c).In-At-first_entry))
+overflow_add-result-in-At-first_entry c =
+    let t = goal.at.overflow_add-result-in-At-first_entry c in
+    omega (arith, c.requires, entry_in c.args.file.now _ _ (some_place t.In-At-first_entry))
 
 pub returns-in-At-first_entry : goal.returns-in-At-first_entry
-returns-in-At-first_entry c = let k = c in
-    ap answer_of (sym (stop_place k.args.file.now _ (no_kind (goal.at.returns-in-At-first_entry c).In_default) (some_place (goal.at.returns-in-At-first_entry c).In-At-first_entry)))
+returns-in-At-first_entry c =
+    let t = goal.at.returns-in-At-first_entry c in
+    ap answer_of (sym (stop_place c.args.file.now _ (no_kind t.In_default) (some_place t.In-At-first_entry)))
 
 pub overflow_add-result-in-At-first_entry-2 : goal.overflow_add-result-in-At-first_entry-2
-overflow_add-result-in-At-first_entry-2 c = let a = c in
-    omega (arith, a.requires, entry_in a.args.file.now _ _ (some_size (goal.at.overflow_add-result-in-At-first_entry-2 c).In-At-first_entry-2))
+overflow_add-result-in-At-first_entry-2 c =
+    let t = goal.at.overflow_add-result-in-At-first_entry-2 c in
+    omega (arith, c.requires, entry_in c.args.file.now _ _ (some_size t.In-At-first_entry-2))
 
 pub returns-in-At-first_entry-2 : goal.returns-in-At-first_entry-2
-returns-in-At-first_entry-2 c = let p = c in
-    let k = p in
-    ap answer_of (sym (stop_size k.args.file.now _ (no_kind (goal.at.returns-in-At-first_entry-2 c).In_default) (no_place (goal.at.returns-in-At-first_entry-2 c).In_default-first_entry) (some_size (goal.at.returns-in-At-first_entry-2 c).In-At-first_entry-2)))
+returns-in-At-first_entry-2 c =
+    let t = goal.at.returns-in-At-first_entry-2 c in
+    ap answer_of (sym (stop_size c.args.file.now _ (no_kind t.In_default) (no_place t.In_default-first_entry) (some_size t.In-At-first_entry-2)))
 
 pub body-script-requires : goal.body-script-requires
-body-script-requires c = let p = c in
-    let a = p in
-    placed a.args.file.now a.requires (no_place (goal.at.body-script-requires c).In_default-first_entry)
+body-script-requires c =
+    placed c.args.file.now c.requires (no_place (goal.at.body-script-requires c).In_default-first_entry)
 
 pub returns-in-At-first_wrong_record : goal.returns-in-At-first_wrong_record
 returns-in-At-first_wrong_record c =

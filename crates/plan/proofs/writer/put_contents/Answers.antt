@@ -1,3 +1,4 @@
+-- The count, the entry of the rows and that of the script, one after the other. Assumes nothing.
 use mathlib.Core.List.{◌++◌}
 use mathlib.Core.Path.{ap, ◌∙◌}
 use Prim.Native.Nat.{ℕ, ◌+◌, ◌*◌}

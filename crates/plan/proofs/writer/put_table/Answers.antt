@@ -1,6 +1,6 @@
 use mathlib.Core.List.{List}
 use mathlib.Core.Path.{◌≡◌, refl, ap, ◌∙◌}
-use Prim.Native.Nat.{ℕ, ◌+◌, ◌-◌, ◌*◌}
+use Prim.Native.Nat.{ℕ, ◌+◌, ◌*◌}
 use native.Mathlib.Omega.{arith}
 use lib.Seq.{sets, take-length}
 use lib.ListN.{length, take, get_or}
@@ -16,7 +16,8 @@ pub overflow_cast-table : goal.overflow_cast-table
 overflow_cast-table c = omega (arith, c.type_inv.table c.loop-i.i)
 
 pub loop-i-preserved : goal.loop-i-preserved
-loop-i-preserved c = let l = c.loop-i in
+loop-i-preserved c =
+    let l = c.loop-i in
     let a = c.args in (
       refl,
       omega arith,
@@ -27,7 +28,8 @@ loop-i-preserved c = let l = c.loop-i in
     )
 
 pub returns : goal.returns
-returns c = let a = c.args in
+returns c =
+    let a = c.args in
     let t = a.table.now in
     let e : c.loop-i.i ≡ length t = omega arith in
     c.loop-i.invariant.2
