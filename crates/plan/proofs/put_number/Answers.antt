@@ -1,3 +1,4 @@
+-- Four stores in a row put the four bytes. Assumes nothing.
 use Prim.Native.Nat.{◌/◌, ◌%◌}
 use native.Mathlib.Omega.{arith}
 use lib.ListN.{length-set}
@@ -14,5 +15,6 @@ pub bounds-output-at-4 : goal.bounds-output-at-4
 bounds-output-at-4 c = simp length-set (omega arith)
 
 pub returns : goal.returns
-returns c = let x = c.args.x in
+returns c =
+    let x = c.args.x in
     sets_four c.args.output.now c.args.at (x % 256) (x / 256 % 256) (x / 65536 % 256) (x / 16777216 % 256)

@@ -1,3 +1,4 @@
+-- Three numbers in a row, all in the contents. Assumes nothing.
 use native.Mathlib.Omega.{arith}
 use Rattle.plan.proofs.reader.entry.Goals as goal
 

@@ -1,6 +1,6 @@
 use mathlib.Core.List.{List}
 use mathlib.Core.Path.{◌≡◌, refl, ap, ◌∙◌}
-use Prim.Native.Nat.{ℕ, ◌+◌, ◌-◌}
+use Prim.Native.Nat.{ℕ, ◌+◌}
 use native.Mathlib.Omega.{arith}
 use lib.Seq.{sets, take-length}
 use lib.ListN.{length, take, get_or, set, length-set}
@@ -11,7 +11,8 @@ pub loop-i-init : goal.loop-i-init
 loop-i-init c = (refl, omega arith, refl, refl)
 
 pub loop-i-preserved : goal.loop-i-preserved
-loop-i-preserved c = let l = c.loop-i in
+loop-i-preserved c =
+    let l = c.loop-i in
     let a = c.args in (
       refl,
       omega arith,
@@ -21,7 +22,8 @@ loop-i-preserved c = let l = c.loop-i in
     )
 
 pub returns : goal.returns
-returns c = let a = c.args in
+returns c =
+    let a = c.args in
     let s = a.script.now in
     let e : c.loop-i.i ≡ length s = omega arith in
     c.loop-i.invariant.2
