@@ -38,12 +38,6 @@ returns-in-Stopped c = let s = c.args.table.now in
       lent_after = refl;
     }
 
-pub slice_bounds-guests-end : goal.slice_bounds-guests-end
-slice_bounds-guests-end c = sym (filled (goal.at.slice_bounds-guests-end c).In_default).long'
-
-pub guests-requires : goal.guests-requires
-guests-requires c = (c.requires.0, offsets _ _ _ (filled (goal.at.guests-requires c).In_default), refl)
-
 pub returns-in-Stopped-guests : goal.returns-in-Stopped-guests
 returns-in-Stopped-guests c = let s = c.args.table.now in record {
       value = sym (refused_7_or_19 s _ (hypertasks_pass (goal.at.returns-in-Stopped-guests c).In_default) (sym c.guests.ensures.value
@@ -51,34 +45,9 @@ returns-in-Stopped-guests c = let s = c.args.table.now in record {
       lent_after = refl;
     }
 
-pub slice_bounds-write-end : goal.slice_bounds-write-end
-slice_bounds-write-end c = sym (filled (goal.at.slice_bounds-write-end c).In_default).long
-
-pub slice_bounds-write-end-2 : goal.slice_bounds-write-end-2
-slice_bounds-write-end-2 c = sym (filled (goal.at.slice_bounds-write-end-2 c).In_default).long'
-
-pub slice_bounds-write-end-3 : goal.slice_bounds-write-end-3
-slice_bounds-write-end-3 c = sym (guests_filled (goal.at.slice_bounds-write-end-3 c).In_default-guests).long
-
-pub write-requires : goal.write-requires
-write-requires c = let a = c in
-    let f = filled (goal.at.write-requires c).In_default in (
-      a.requires.1,
-      omega (arith, f.long, a.requires.0.few),
-      omega (arith, f.long', a.requires.0.few),
-      omega (
-        arith,
-        (guests_filled (goal.at.write-requires c).In_default-guests).long,
-        a.requires.0.few,
-      ),
-    )
-
 pub returns : goal.returns
-returns c = let g = c in
-    let f = g in
-    let a = f in
-    let s = a.args.table.now in record {
+returns c = let s = c.args.table.now in record {
       value = sym (accepted s (hypertasks_pass (goal.at.returns c).In_default) (guests_pass (goal.at.returns c).In_default-guests));
-      lent_after = c.write.ensures ∙ ap (λ (x : List ℕ). x ++ drop (3 * rows s) a.args.lent.now) (results_are s _ _ _ (rows s) (filled (goal.at.returns c).In_default)
+      lent_after = c.write.ensures ∙ ap (λ (x : List ℕ). x ++ drop (3 * rows s) c.args.lent.now) (results_are s _ _ _ (rows s) (filled (goal.at.returns c).In_default)
           (guests_filled (goal.at.returns c).In_default-guests));
     }

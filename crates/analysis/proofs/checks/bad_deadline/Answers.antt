@@ -7,9 +7,6 @@ use Rattle.equations.specs.Analysis.{bad_deadline}
 use Rattle.analysis.specs.Loops.{place_of}
 use Rattle.analysis.proofs.checks.bad_deadline.Goals as goal
 
-pub loop-j-init : goal.loop-j-init
-loop-j-init c = walk_start _ _
-
 pub returns-then-period-deadline : goal.returns-then-period-deadline
 returns-then-period-deadline c = let s = c.args.table.now in
     ap place_of (sym (walk_found (bad_deadline s) _ _ c.loop-j.invariant (omega arith) (lt-ltb _ _ c.if-period-deadline.true)))

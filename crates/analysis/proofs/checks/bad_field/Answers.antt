@@ -7,9 +7,6 @@ use Rattle.equations.proofs.Checks.{field_low, field_high, field_fine}
 use Rattle.analysis.specs.Loops.{place_of}
 use Rattle.analysis.proofs.checks.bad_field.Goals as goal
 
-pub loop-k-init : goal.loop-k-init
-loop-k-init c = (refl, walk_start (bad_field c.args.table.now) _)
-
 pub returns-then-x-lt1 : goal.returns-then-x-lt1
 returns-then-x-lt1 c = let s = c.args.table.now in
     ap place_of (sym (walk_found (bad_field s) _ _ c.loop-k.invariant.1 (omega arith) (field_low s _ c.if-x-lt1.true)))

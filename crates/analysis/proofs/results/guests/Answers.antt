@@ -17,9 +17,6 @@ found : (c : In-Is) → guest c.args.table.now
     c.loop-i.i ≡ Is c.in-Is.g
 found c = sym c.guest_of.ensures ∙ c.in-Is.is
 
-pub loop-i-init : goal.loop-i-init
-loop-i-init c = (rows_start _ _, guests_none _ _ c.requires.2)
-
 pub returns-in-Fails : goal.returns-in-Fails
 unfolding guest_check
 returns-in-Fails c = let s = c.args.table.now in
@@ -31,14 +28,12 @@ returns-in-Fails c = let s = c.args.table.now in
     }
 
 pub overflow_cast-gs : goal.overflow_cast-gs
-overflow_cast-gs c = let a = c in
-    let s = a.args.table.now in
+overflow_cast-gs c = let s = c.args.table.now in
     let i = c.loop-i.i in
-    omega (arith, guest≤ s i _ (found (goal.at.overflow_cast-gs c).In-Is), E≤D s i, D≤ s a.requires.0 i (omega arith), T≤ s a.requires.0 i (omega arith))
+    omega (arith, guest≤ s i _ (found (goal.at.overflow_cast-gs c).In-Is), E≤D s i, D≤ s c.requires.0 i (omega arith), T≤ s c.requires.0 i (omega arith))
 
 pub loop-i-preserved : goal.loop-i-preserved
-loop-i-preserved c = let a = c in
-    let s = a.args.table.now in
+loop-i-preserved c = let s = c.args.table.now in
     let l = c.loop-i in
     (rows_next (guest s) _ l.i _ l.invariant.0 (omega arith) (found (goal.at.loop-i-preserved c).In-Is), guests_more s l.gs l.i _ l.invariant.1 (omega arith) (found (goal.at.loop-i-preserved c).In-Is))
 
