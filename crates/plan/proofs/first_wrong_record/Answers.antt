@@ -1,13 +1,10 @@
 use mathlib.Core.Path.{sym, ap}
 use native.Mathlib.Omega.{arith}
-use Rattle.least.proofs.Where.{walk_start, walk_next, walk_found, walk_none}
+use Rattle.least.proofs.Where.{walk_next, walk_found, walk_none}
 use Rattle.plan.specs.PlanFile.{wrong_record, first_wrong_record}
 use Rattle.plan.specs.Refuse.{found_of}
 use Rattle.plan.proofs.Tests.{bad_mark, bad_spare, bad_last, good_record}
 use Rattle.plan.proofs.first_wrong_record.Goals as goal
-
-pub loop-r-init : goal.loop-r-init
-loop-r-init c = walk_start _ _
 
 pub returns-then-byte-gt1 : goal.returns-then-byte-gt1
 unfolding first_wrong_record

@@ -1,5 +1,5 @@
 use mathlib.Core.List.{List, ◌++◌}
-use mathlib.Core.Path.{◌≡◌, refl, ap, ◌∙◌}
+use mathlib.Core.Path.{refl, ap, ◌∙◌}
 use Prim.Native.Nat.{ℕ}
 use native.Mathlib.Omega.{arith}
 use lib.ListN.{drop, set, length-set}
@@ -22,9 +22,3 @@ loop-i-preserved c =
           ∙ numbers_step a.rows.now a.table.now l.i (omega arith),
       length-set l.table l.i c.number_32.result ∙ l.invariant.2,
     )
-
-pub returns : goal.returns
-returns c =
-    let a = c.args in
-    let e : c.loop-i.i ≡ a.n = omega arith in
-    c.loop-i.invariant.1 ∙ ap (λ (x : ℕ). numbers_in a.rows.now x ++ drop x a.table.now) e

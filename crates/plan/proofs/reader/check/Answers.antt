@@ -2,12 +2,10 @@
 use mathlib.Core.Bool.{false}
 use mathlib.Core.Path.{◌≡◌, sym, ap, ◌∙◌}
 use Prim.Native.Nat.{ℕ}
-use borrow.Author.Tests.{ltb-false}
 use lib.ListN.{length}
 use Rattle.plan.specs.PlanFile.{count, wrong_length, wrong_count}
 use Rattle.plan.specs.Refuse.{answer_of}
-use Rattle.plan.proofs.Entries.{stop_length, stop_count, go_entries, listed}
-use Rattle.plan.proofs.Tests.{or_inv}
+use Rattle.plan.proofs.Entries.{stop_length, stop_count, go_entries}
 use Rattle.plan.proofs.reader.check.Goals.{After-wrong_count, Else-wrong_length}
 use Rattle.plan.proofs.reader.check.Goals as goal
 
@@ -25,16 +23,10 @@ counted c =
 pub returns-then-wrong_length : goal.returns-then-wrong_length
 returns-then-wrong_length c = ap answer_of (sym (stop_length c.args.file.now (sym c.wrong_length.ensures ∙ c.if-wrong_length.true)))
 
-pub number-requires : goal.number-requires
-number-requires c = ltb-false _ _ (or_inv _ _ (length_right (goal.at.number-requires c).Else-wrong_length)).0
-
 pub returns-then-wrong_count : goal.returns-then-wrong_count
 returns-then-wrong_count c =
     let t = goal.at.returns-then-wrong_count c in
     ap answer_of (sym (stop_count c.args.file.now (length_right t.Else-wrong_length) (sym (counted t.After-wrong_count) ∙ c.if-wrong_count.true)))
-
-pub check_entries-requires : goal.check_entries-requires
-check_entries-requires c = listed c.args.file.now (sym (counted (goal.at.check_entries-requires c).After-wrong_count) ∙ c.if-wrong_count.false)
 
 pub returns : goal.returns
 returns c =

@@ -1,12 +1,9 @@
 use mathlib.Core.Path.{sym, ap, ◌∙◌}
 use native.Mathlib.Omega.{arith}
-use Rattle.least.proofs.Where.{walk_start, walk_next, walk_found, walk_none}
+use Rattle.least.proofs.Where.{walk_next, walk_found, walk_none}
 use Rattle.plan.specs.PlanFile.{asked, first_entry}
 use Rattle.plan.specs.Refuse.{found_of}
 use Rattle.plan.proofs.reader.first_entry.Goals as goal
-
-pub loop-i-init : goal.loop-i-init
-loop-i-init c = walk_start _ _
 
 pub returns-then-is_so : goal.returns-then-is_so
 unfolding first_entry

@@ -8,7 +8,7 @@ use lib.ListN.{length}
 use Rattle.plan.specs.Writer.{wrong_table}
 use Rattle.plan.specs.PlanFile.{first_wrong_record}
 use Rattle.plan.specs.Refuse.{answer_of}
-use Rattle.plan.proofs.Written.{stop_table, stop_eights, stop_record, stop_total, stop_room, go_write, table_right}
+use Rattle.plan.proofs.Written.{stop_table, stop_eights, stop_record, stop_total, stop_room, go_write}
 use Rattle.plan.proofs.Tests.{found_some, found_none}
 use Rattle.plan.proofs.writer.check_write.Goals.{Else-wrong_table, In_default}
 use Rattle.plan.proofs.writer.check_write.Goals as goal
@@ -36,12 +36,6 @@ returns-in-At c =
     (sym
     (stop_record a.table.now a.script.now a.room _ (table_fine (goal.at.returns-in-At c).Else-wrong_table) (omega arith)
     (found_some _ _ (sym c.in-At.is ∙ c.first_wrong_record.ensures))))
-
-pub file_length-need-requires : goal.file_length-need-requires
-file_length-need-requires c =
-    let a = c.args in
-    let t = goal.at.file_length-need-requires c in
-    omega (arith, table_right a.table.now a.script.now a.room (table_fine t.Else-wrong_table), c.well_formed)
 
 pub returns-then-wrong_length : goal.returns-then-wrong_length
 returns-then-wrong_length c =

@@ -4,19 +4,14 @@ use mathlib.Core.Path.{◌≡◌, sym, ◌∙◌}
 use native.Mathlib.Omega.{arith}
 use lib.ListN.{length}
 use Rattle.plan.specs.Writer.{write_refusal}
-use Rattle.plan.proofs.Written.{allowed, plan_length, nothing_written, file_written}
-use Rattle.plan.proofs.Tests.{answer_some, answer_none}
+use Rattle.plan.proofs.Written.{allowed, plan_length, file_written}
+use Rattle.plan.proofs.Tests.{answer_none}
 use Rattle.plan.proofs.writer.write.Goals.{In_default}
 use Rattle.plan.proofs.writer.write.Goals as goal
 
 accepted : (c : In_default)
     → write_refusal c.args.table.now c.args.script.now (length c.args.output.now) ≡ none
 accepted c = answer_none _ (sym c.in_default.is ∙ c.check_write.ensures)
-
-pub returns-in-Refused : goal.returns-in-Refused
-returns-in-Refused c =
-    let a = c.args in
-    nothing_written a.table.now a.script.now a.output.now _ (answer_some _ _ (sym c.in-Refused.is ∙ c.check_write.ensures))
 
 pub put_file-requires : goal.put_file-requires
 put_file-requires c =
