@@ -4,7 +4,8 @@ use Rattle.export.proofs.FileParts.{rows_fours, table_front, table_length}
 use Rattle.export.proofs.tollsalmon_table.Goals as goal
 
 pub returns : goal.returns
-returns c = let a = c.args in
+returns c =
+    let a = c.args in
     let f = a.file.now in
     let part = part_of rows_kind f in
     let r = c.rows_of-rows in

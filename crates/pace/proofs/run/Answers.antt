@@ -14,7 +14,8 @@ pub overflow_add-total : goal.overflow_add-total
 overflow_add-total c = omega (arith, c.loop-i.invariant.3, c.said_sum-total.ensures.1)
 
 pub loop-i-preserved : goal.loop-i-preserved
-loop-i-preserved c = let l = c.loop-i in
+loop-i-preserved c =
+    let l = c.loop-i in
     let a = c.args in
     let t = c.step-s in
     let x = c.said_sum-total in (
@@ -26,7 +27,8 @@ loop-i-preserved c = let l = c.loop-i in
     )
 
 pub returns : goal.returns
-returns c = let a = c.args in
+returns c =
+    let a = c.args in
     let l = c.loop-i in
     let e : l.i ≡ a.times = omega arith in
     l.invariant.2 ∙ ap (ticks_sum a.m a.mask a.signal a.early) e

@@ -10,12 +10,9 @@ use Rattle.report.proofs.put_text.Goals as goal
 
 pub returns-in-Refused : goal.returns-in-Refused
 unfolding text_of
-returns-in-Refused c = let c2 = c in
-    let c5 = c2 in
-    let c7 = c5 in
-    let c10 = c7 in
-    let p = c2.put_refusal.ensures in
-    let e = answer_some (read_refusal c10.args.file.now) c5.in-Refused.refusal (sym c5.in-Refused.is ∙ c7.check.ensures) in
+returns-in-Refused c =
+    let p = c.put_refusal.ensures in
+    let e = answer_some (read_refusal c.args.file.now) c.in-Refused.refusal (sym c.in-Refused.is ∙ c.check.ensures) in
     record {
       puts = rw e p.puts;
       short = omega (arith, p.short);
@@ -35,30 +32,21 @@ slice_bounds-put_table-end c =
     sym (length-take-le _ _ (omega (arith, c.table_of.auto.table, ap length c.rows_of-rows.ensures, few)))
 
 pub put_table-requires : goal.put_table-requires
-put_table-requires c = let c7 = c in
-    let c9 = c7 in
-    let c12 = c9 in
-    let f = c12.args.file.now in
-    let e = answer_none (read_refusal f) (sym c7.in_default.is ∙ c9.check.ensures) in
+put_table-requires c =
+    let f = c.args.file.now in
+    let e = answer_none (read_refusal f) (sym c.in_default.is ∙ c.check.ensures) in
     omega (arith, ap length c.script_of.ensures, part_short f e script_kind)
 
 pub returns : goal.returns
 unfolding text_of
-returns c = let c2 = c in
-    let c3 = c2 in
-    let c7 = c3 in
-    let c9 = c7 in
-    let c10 = c9 in
-    let c12 = c10 in
-    let c13 = c12 in
-    let c15 = c13 in
-    let f = c15.args.file.now in
-    let e = answer_none (read_refusal f) (sym c10.in_default.is ∙ c12.check.ensures) in
-    let t = c7.table_of.ensures in
-    let u = rw c9.rows_of-rows.ensures at t in
-    let w = taken_rows f e (λ j h. omega (arith, c13.shared_slice_known-1.given j)) _ _ u in
-    let p = c2.put_table.ensures in
+returns c =
+    let f = c.args.file.now in
+    let e = answer_none (read_refusal f) (sym c.in_default.is ∙ c.check.ensures) in
+    let t = c.table_of.ensures in
+    let u = rw c.rows_of-rows.ensures at t in
+    let w = taken_rows f e (λ j h. omega (arith, c.shared_slice_known-1.given j)) _ _ u in
+    let p = c.put_table.ensures in
     record {
-      puts = rw (e, ← w, ← c9.rows_of-rows.ensures, ← c3.script_of.ensures) p.puts;
+      puts = rw (e, ← w, ← c.rows_of-rows.ensures, ← c.script_of.ensures) p.puts;
       short = p.short;
     }

@@ -3,19 +3,16 @@ use native.Mathlib.Omega.{arith}
 use Rattle.report.proofs.report.Goals as goal
 
 pub returns-then-text-ge-LONGEST : goal.returns-then-text-ge-LONGEST
-returns-then-text-ge-LONGEST c = let x = c.args in
+returns-then-text-ge-LONGEST c =
+    let x = c.args in
     let p = c.put_text.ensures in
     written_at_once x.file.now x.text.now _ _ p.puts p.short c.if-text-ge-LONGEST.true
 
 pub returns-then-text-n : goal.returns-then-text-n
-returns-then-text-n c = let c5 = c in
-    too_short c5.args.file.now c5.args.text.now _ c.needed-n.ensures.0 c.if-text-n.true
+returns-then-text-n c = too_short c.args.file.now c.args.text.now _ c.needed-n.ensures.0 c.if-text-n.true
 
 pub returns : goal.returns
-returns c = let c2 = c in
-    let c4 = c2 in
-    let c5 = c4 in
-    let c9 = c5 in
-    let x = c9.args in
-    let p = c2.put_text-2.ensures in
-    written x.file.now x.text.now _ _ p.puts p.short (omega (arith, c5.needed-n.ensures.0, c4.if-text-n.false))
+returns c =
+    let x = c.args in
+    let p = c.put_text-2.ensures in
+    written x.file.now x.text.now _ _ p.puts p.short (omega (arith, c.needed-n.ensures.0, c.if-text-n.false))

@@ -7,7 +7,7 @@ use Rattle.start.proofs.row_of.Goals as goal
 
 pub returns : goal.returns
 unfolding row_of
-returns c = let a = c in
-    let s = a.args.table.now in
-    let j = a.args.j in
-    ap (λ (x : ℕ). record { t = T s j; d = D s j; c = C s j; k = K s j; e = x; stage = Stage.Never }) (a.requires.0.offsets j a.requires.1)
+returns c =
+    let s = c.args.table.now in
+    let j = c.args.j in
+    ap (λ (x : ℕ). record { t = T s j; d = D s j; c = C s j; k = K s j; e = x; stage = Stage.Never }) (c.requires.0.offsets j c.requires.1)

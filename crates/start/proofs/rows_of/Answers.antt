@@ -16,16 +16,16 @@ pub loop-j-init : goal.loop-j-init
 loop-j-init c = (omega arith, ap (λ (r : Row). replicate 32 r) c.no_row-places.ensures ∙ places_none _)
 
 pub loop-j-preserved : goal.loop-j-preserved
-loop-j-preserved c = let a = c in
-    let s = a.args.table.now in
+loop-j-preserved c =
+    let s = c.args.table.now in
     let l = c.loop-j in (
       omega arith,
       ap (λ (x : List Row). set x l.j c.row_of.result) l.invariant.1
           ∙ ap (λ (r : Row). set (fresh_places s l.j) l.j r) c.row_of.ensures
-          ∙ places_more s l.j (omega (arith, a.requires.0.sound.few)),
+          ∙ places_more s l.j (omega (arith, c.requires.0.sound.few)),
     )
 
 pub returns : goal.returns
-returns c = let a = c in
-    let e : c.loop-j.j ≡ a.args.n = omega arith in
-    c.loop-j.invariant.1 ∙ ap (fresh_places a.args.table.now) e
+returns c =
+    let e : c.loop-j.j ≡ c.args.n = omega arith in
+    c.loop-j.invariant.1 ∙ ap (fresh_places c.args.table.now) e

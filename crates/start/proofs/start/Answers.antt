@@ -7,14 +7,15 @@ use Rattle.start.proofs.Places.{same_answer, accepted_analysed, started_refused,
 use Rattle.start.proofs.start.Goals as goal
 
 pub rows_of-requires : goal.rows_of-requires
-rows_of-requires c = let a = c in
-    let s = a.args.table.now in
+rows_of-requires c =
+    let s = c.args.table.now in
     let r = c.analyse in
     let e = sym r.ensures.answers ∙ c.in-Accepted.is in
     (rw r.ensures.leaves (accepted_analysed s _ _ refl e), analysed_tasks s _ _ e)
 
 pub returns-in-Refused : goal.returns-in-Refused
-returns-in-Refused c = let s = c.args.table.now in
+returns-in-Refused c =
+    let s = c.args.table.now in
     let r = c.analyse in
     let e = sym (same_answer s (replicate 96 0) refl) ∙ sym r.ensures.answers ∙ c.in-Refused.is in
     ap (λ (x : Row). record {
@@ -25,7 +26,8 @@ returns-in-Refused c = let s = c.args.table.now in
     ∙ sym (started_refused s _ e)
 
 pub returns-in-Accepted : goal.returns-in-Accepted
-returns-in-Accepted c = let s = c.args.table.now in
+returns-in-Accepted c =
+    let s = c.args.table.now in
     let r = c.analyse in
     let e = sym (same_answer s (replicate 96 0) refl) ∙ sym r.ensures.answers ∙ c.in-Accepted.is in
     ap (λ (x : List Row). record {

@@ -9,17 +9,16 @@ pub loop-i-init : goal.loop-i-init
 loop-i-init c = (omega arith, refl, omega arith, λ o r p. p)
 
 pub loop-i-preserved : goal.loop-i-preserved
-loop-i-preserved c = let s = c in
-    let bytes = s.args.bytes.now in (
+loop-i-preserved c =
+    let bytes = c.args.bytes.now in (
       omega arith,
-      c.put_byte-to.auto.text ∙ s.loop-i.invariant.1,
+      c.put_byte-to.auto.text ∙ c.loop-i.invariant.1,
       omega (arith, c.put_byte-to.ensures.next),
-      left_more _ _ _ s.loop-i.invariant.3 c.put_byte-to.ensures (drop_more bytes s.loop-i.i (omega arith)),
+      left_more _ _ _ c.loop-i.invariant.3 c.put_byte-to.ensures (drop_more bytes c.loop-i.i (omega arith)),
     )
 
 pub shape_of-text : goal.shape_of-text
 shape_of-text c = c.loop-i.invariant.1
 
 pub returns : goal.returns
-returns c = let s = c in
-    left_none _ s.loop-i.invariant.3 (omega arith) s.loop-i.invariant.2 (drop_of_length-le s.args.bytes.now c.loop-i-test.false)
+returns c = left_none _ c.loop-i.invariant.3 (omega arith) c.loop-i.invariant.2 (drop_of_length-le c.args.bytes.now c.loop-i-test.false)

@@ -10,16 +10,13 @@ pub loop-i-init : goal.loop-i-init
 loop-i-init c = (omega arith, refl, omega arith, omega arith, λ o r p. p)
 
 pub loop-i-preserved : goal.loop-i-preserved
-loop-i-preserved c = let c2 = c in
-    let c7 = c2 in
-    let b = c7 in
-    let s = b in
-    let xs = s.args.numbers.now in (
+loop-i-preserved c =
+    let xs = c.args.numbers.now in (
       omega arith,
-      c2.put_number-to.auto.text ∙ b.put_byte-after.auto.text ∙ s.loop-i.invariant.1,
-      omega (arith, c2.put_number-to.ensures.short, b.put_byte-after.ensures.next, s.loop-i.invariant.2),
-      omega (arith, c2.put_number-to.ensures.puts.next),
-      left_more _ _ _ s.loop-i.invariant.4 (put_then b.put_byte-after.ensures c2.put_number-to.ensures.puts) (spaced_more xs s.loop-i.i (omega arith)),
+      c.put_number-to.auto.text ∙ c.put_byte-after.auto.text ∙ c.loop-i.invariant.1,
+      omega (arith, c.put_number-to.ensures.short, c.put_byte-after.ensures.next, c.loop-i.invariant.2),
+      omega (arith, c.put_number-to.ensures.puts.next),
+      left_more _ _ _ c.loop-i.invariant.4 (put_then c.put_byte-after.ensures c.put_number-to.ensures.puts) (spaced_more xs c.loop-i.i (omega arith)),
     )
 
 pub shape_of-text : goal.shape_of-text
@@ -27,8 +24,8 @@ shape_of-text c = c.loop-i.invariant.1
 
 pub returns : goal.returns
 unfolding spaced
-returns c = let s = c in
-    let numbers = s.args.numbers.now in record {
-      puts = left_none _ s.loop-i.invariant.4 (omega arith) s.loop-i.invariant.3 (ap spaced (drop_of_length-le numbers c.loop-i-test.false));
-      short = omega (arith, s.loop-i.invariant.0, s.loop-i.invariant.2);
+returns c =
+    let numbers = c.args.numbers.now in record {
+      puts = left_none _ c.loop-i.invariant.4 (omega arith) c.loop-i.invariant.3 (ap spaced (drop_of_length-le numbers c.loop-i-test.false));
+      short = omega (arith, c.loop-i.invariant.0, c.loop-i.invariant.2);
     }

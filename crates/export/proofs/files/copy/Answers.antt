@@ -9,7 +9,8 @@ pub loop-i-init : goal.loop-i-init
 loop-i-init c = (omega arith, refl, refl, refl)
 
 pub loop-i-preserved : goal.loop-i-preserved
-loop-i-preserved c = let a = c.args in
+loop-i-preserved c =
+    let a = c.args in
     let l = c.loop-i in (
       omega arith,
       l.invariant.1,
@@ -18,6 +19,6 @@ loop-i-preserved c = let a = c.args in
     )
 
 pub returns : goal.returns
-returns c = let a = c in
+returns c =
     let l = c.loop-i in
-    copied a.args.part.now a.args.lent.now l.lent l.i a.requires (omega arith) l.invariant.2
+    copied c.args.part.now c.args.lent.now l.lent l.i c.requires (omega arith) l.invariant.2

@@ -4,16 +4,13 @@ use mathlib.Core.Path.{sym, ◌∙◌}
 use Rattle.export.proofs.state.head_of.Goals as goal
 
 pub bounds-state-0 : goal.bounds-state-0
-bounds-state-0 c = let p = c in
-    omega (arith, (can_read p.args.state.now (sym p.is_readable.ensures ∙ c.if-is_readable.true)).long)
+bounds-state-0 c = omega (arith, (can_read c.args.state.now (sym c.is_readable.ensures ∙ c.if-is_readable.true)).long)
 
 pub bounds-state-1 : goal.bounds-state-1
-bounds-state-1 c = let p = c in
-    omega (arith, (can_read p.args.state.now (sym p.is_readable.ensures ∙ c.if-is_readable.true)).long)
+bounds-state-1 c = omega (arith, (can_read c.args.state.now (sym c.is_readable.ensures ∙ c.if-is_readable.true)).long)
 
 pub returns-then-is_readable : goal.returns-then-is_readable
-returns-then-is_readable c = let p = c in
-    head_ok p.args.state.now (sym p.is_readable.ensures ∙ c.if-is_readable.true)
+returns-then-is_readable c = head_ok c.args.state.now (sym c.is_readable.ensures ∙ c.if-is_readable.true)
 
 pub returns : goal.returns
 returns c = head_not c.args.state.now (sym c.is_readable.ensures ∙ c.if-is_readable.false)

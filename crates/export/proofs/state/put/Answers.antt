@@ -8,9 +8,7 @@ pub bounds-state-1 : goal.bounds-state-1
 bounds-state-1 c = simp length-set (omega arith)
 
 pub shape_of-state : goal.shape_of-state
-shape_of-state c = let a = c in
-    c.state-1.given ∙ length_two a.args.state.now a.args.m.count a.args.m.clock
+shape_of-state c = c.state-1.given ∙ length_two c.args.state.now c.args.m.count c.args.m.clock
 
 pub returns : goal.returns
-returns c = let a = c in
-    c.put_rows.ensures ∙ put_all a.args.state.now a.args.m a.requires
+returns c = c.put_rows.ensures ∙ put_all c.args.state.now c.args.m c.requires

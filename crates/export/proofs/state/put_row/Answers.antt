@@ -25,10 +25,10 @@ pub bounds-state-at-8 : goal.bounds-state-at-8
 bounds-state-at-8 c = simp length-set (omega arith)
 
 pub shape_of-state : goal.shape_of-state
-shape_of-state c = let a = c.args in
+shape_of-state c =
+    let a = c.args in
     length_eight a.state.now a.at _ _ _ _ _ _ _ _
 
 pub returns : goal.returns
-returns c = let a = c in
-    rw (c.ticks_number.ensures, c.arrival_number.ensures, c.stage_number.ensures)
-    (set_eight a.args.state.now a.args.at _ _ _ _ _ _ _ _ a.requires)
+returns c = rw (c.ticks_number.ensures, c.arrival_number.ensures, c.stage_number.ensures)
+    (set_eight c.args.state.now c.args.at _ _ _ _ _ _ _ _ c.requires)

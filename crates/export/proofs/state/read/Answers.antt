@@ -13,17 +13,19 @@ use Rattle.export.proofs.state.read.Goals as goal
 
 pub loop-i-init : goal.loop-i-init
 unfolding list_of
-loop-i-init c = let s = c.args.state.now in
+loop-i-init c =
+    let s = c.args.state.now in
     (omega arith, rw c.head_of-h.ensures (places_most s), ap (λ (r : Row). replicate 32 r) c.no_row-rows.ensures)
 
 pub row_in-requires : goal.row_in-requires
-row_in-requires c = let h = c in
-    let s = h.args.state.now in
-    let p = can_read s (place_read s c.loop-i.i (rw h.head_of-h.ensures at c.loop-i-test.true)) in
+row_in-requires c =
+    let s = c.args.state.now in
+    let p = can_read s (place_read s c.loop-i.i (rw c.head_of-h.ensures at c.loop-i-test.true)) in
     (p.long, omega arith, p.places c.loop-i.i (omega arith))
 
 pub loop-i-preserved : goal.loop-i-preserved
-loop-i-preserved c = let s = c.args.state.now in
+loop-i-preserved c =
+    let s = c.args.state.now in
     let l = c.loop-i in (
       omega arith,
       l.invariant.1,
@@ -33,6 +35,6 @@ loop-i-preserved c = let s = c.args.state.now in
     )
 
 pub returns : goal.returns
-returns c = let h = c in
+returns c =
     let l = c.loop-i in
-    read_is h.args.state.now h.head_of-h.result l.rows l.i h.head_of-h.ensures (omega arith) l.invariant.2
+    read_is c.args.state.now c.head_of-h.result l.rows l.i c.head_of-h.ensures (omega arith) l.invariant.2

@@ -13,7 +13,8 @@ unfolding machine_after flat
 loop-i-init c = (omega arith, refl, refl, refl)
 
 pub loop-i-preserved : goal.loop-i-preserved
-loop-i-preserved c = let a = c.args in
+loop-i-preserved c =
+    let a = c.args in
     let l = c.loop-i in
     let t = c.tick_of-t in
     let s = c.step-s in
@@ -26,7 +27,8 @@ loop-i-preserved c = let a = c.args in
     )
 
 pub returns : goal.returns
-returns c = let a = c.args in
+returns c =
+    let a = c.args in
     let l = c.loop-i in
     let e : l.i ≡ a.n = omega arith in
     let rs = a.records.now in

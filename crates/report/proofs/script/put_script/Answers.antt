@@ -8,19 +8,13 @@ pub put_ticks-a-requires : goal.put_ticks-a-requires
 put_ticks-a-requires c = (c.requires.1, totals_none)
 
 pub put_totals-requires : goal.put_totals-requires
-put_totals-requires c = let c9 = c in
-    let c16 = c9 in
-    let x = c16 in
-    totals_balance x.args.m x.args.n x.requires.0 x.requires.2 (ticks_of x.args.script.now) _ _ _ c9.put_ticks-a.ensures.counts
+put_totals-requires c = totals_balance c.args.m c.args.n c.requires.0 c.requires.2 (ticks_of c.args.script.now) _ _ _ c.put_ticks-a.ensures.counts
 
 pub returns : goal.returns
-returns c = let c2 = c in
-    let c12 = c2 in
-    let c19 = c12 in
-    let x = c19 in
-    let p = c2.put_totals.ensures in
-    let q = c12.put_ticks-a.ensures in
-    let t = total_lines_lem x.args.m x.args.n x.requires.0 x.requires.2 (ticks_of x.args.script.now) _ _ _ q.counts in
+returns c =
+    let p = c.put_totals.ensures in
+    let q = c.put_ticks-a.ensures in
+    let t = total_lines_lem c.args.m c.args.n c.requires.0 c.requires.2 (ticks_of c.args.script.now) _ _ _ q.counts in
     record {
       puts = put_then q.puts (rw (← t) p.puts);
       short = omega (arith, p.short, q.short);

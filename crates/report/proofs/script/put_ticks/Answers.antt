@@ -16,46 +16,38 @@ unfolding onward ticks_from
 loop-i-init c = (omega arith, refl, omega arith, omega arith, refl, c.requires.1, λ o r p. rw sub-zero at p)
 
 pub count-requires : goal.count-requires
-count-requires c = let s = c in
-    let x = c in
-    let m = x.args.m in
-    let script = x.args.script.now in
-    let few : length (so_far m script s.loop-i.i).taken ≤ 65536 = omega (arith, taken_few m script s.loop-i.i, s.loop-i.invariant.0, x.requires.0) in
-    let t = s.loop-i.invariant.5 in
+count-requires c =
+    let m = c.args.m in
+    let script = c.args.script.now in
+    let few : length (so_far m script c.loop-i.i).taken ≤ 65536 = omega (arith, taken_few m script c.loop-i.i, c.loop-i.invariant.0, c.requires.0) in
+    let t = c.loop-i.invariant.5 in
     (low_arrived _ _ _ _ t few, low_guests _ _ _ _ t few, low_hypertasks _ _ _ _ t few)
 
 pub loop-i-preserved : goal.loop-i-preserved
-loop-i-preserved c = let c3 = c in
-    let c11 = c3 in
-    let c15 = c11 in
-    let c16 = c15 in
-    let c17 = c16 in
-    let c18 = c17 in
-    let c24 = c18 in
-    let p = c3.put_tick-to in
-    let k = c11.count in
-    let st = c15.step-stepped in
-    let tick = c16.tick_at-tick in
-    let s = c18 in
-    let a = c24.args in
+loop-i-preserved c =
+    let p = c.put_tick-to in
+    let k = c.count in
+    let st = c.step-stepped in
+    let tick = c.tick_at-tick in
+    let a = c.args in
     let m = a.m in
     let script = a.script.now in
-    let i = s.loop-i.i in
-    let here = s.loop-i.invariant.4 in
-    let t = s.loop-i.invariant.5 in
+    let i = c.loop-i.i in
+    let here = c.loop-i.invariant.4 in
+    let t = c.loop-i.invariant.5 in
     let r = so_far m script i in
     let e = so_far_more m script i in (
-      omega (arith, c17.loop-i-test.true),
-      p.auto.text ∙ s.loop-i.invariant.1,
-      omega (arith, p.ensures.short, s.loop-i.invariant.2),
+      omega (arith, c.loop-i-test.true),
+      p.auto.text ∙ c.loop-i.invariant.1,
+      omega (arith, p.ensures.short, c.loop-i.invariant.2),
       omega (arith, p.ensures.puts.next),
       ap (λ (x : Run). x.machine) e ∙ next_machine r script i _ _ _ here tick.ensures st.ensures,
       rw e
           (totals_more r (tick_of script i) _ _ _ _ _ _ t (k.auto.arrived ∙ t.long_a) (k.auto.guests ∙ t.long_g) (k.auto.hypertasks ∙ t.long_h) _ _
           (next_answer r script i _ _ _ here tick.ensures st.ensures) (ap (λ (x : Tick). x.mask) tick.ensures)
           k.ensures.arrived_added k.ensures.guests_added k.ensures.hypertasks_added),
-      left_more _ _ _ s.loop-i.invariant.6 p.ensures.puts
-          (rw e (lines_more r script i _ _ _ here tick.ensures st.ensures (length script / 8) c17.loop-i-test.true)),
+      left_more _ _ _ c.loop-i.invariant.6 p.ensures.puts
+          (rw e (lines_more r script i _ _ _ here tick.ensures st.ensures (length script / 8) c.loop-i-test.true)),
     )
 
 pub shape_of-text : goal.shape_of-text
@@ -71,10 +63,10 @@ pub shape_of-hypertasks : goal.shape_of-hypertasks
 shape_of-hypertasks c = c.loop-i.invariant.5.long_h ∙ sym c.requires.1.long_h
 
 pub returns : goal.returns
-returns c = let s = c in
+returns c =
     let script = c.args.script.now in
-    let e : s.loop-i.i ≡ length script / 8 = omega (arith, s.loop-i.invariant.0, c.loop-i-test.false) in record {
-      puts = left_none _ s.loop-i.invariant.6 (omega arith) s.loop-i.invariant.3 (lines_end _ script s.loop-i.i (length script / 8) (omega arith));
-      short = omega (arith, s.loop-i.invariant.0, s.loop-i.invariant.2);
-      counts = rw (← e) s.loop-i.invariant.5;
+    let e : c.loop-i.i ≡ length script / 8 = omega (arith, c.loop-i.invariant.0, c.loop-i-test.false) in record {
+      puts = left_none _ c.loop-i.invariant.6 (omega arith) c.loop-i.invariant.3 (lines_end _ script c.loop-i.i (length script / 8) (omega arith));
+      short = omega (arith, c.loop-i.invariant.0, c.loop-i.invariant.2);
+      counts = rw (← e) c.loop-i.invariant.5;
     }

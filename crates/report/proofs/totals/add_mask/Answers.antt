@@ -10,22 +10,18 @@ pub loop-i-init : goal.loop-i-init
 loop-i-init c = (omega arith, refl, partly_none _ _)
 
 pub overflow_add-arrived : goal.overflow_add-arrived
-overflow_add-arrived c = let c3 = c in
-    let c5 = c3 in
-    let s = c3 in
-    let i = s.loop-i.i in
-    omega (arith, s.loop-i.invariant.2.above i (omega arith), c5.requires.low i (omega arith), one_low (in_mask c5.args.mask i), c.bit.ensures)
+overflow_add-arrived c =
+    let i = c.loop-i.i in
+    omega (arith, c.loop-i.invariant.2.above i (omega arith), c.requires.low i (omega arith), one_low (in_mask c.args.mask i), c.bit.ensures)
 
 pub loop-i-preserved : goal.loop-i-preserved
-loop-i-preserved c = let c3 = c in
-    let c5 = c3 in
-    let s = c3 in
-    let a = s.loop-i.arrived in
-    let i = s.loop-i.i in (
+loop-i-preserved c =
+    let a = c.loop-i.arrived in
+    let i = c.loop-i.i in (
       omega arith,
-      length-set a i (get_or a i 0 + c.bit.result) ∙ s.loop-i.invariant.1,
-      partly_more (in_mask c5.args.mask) c5.args.arrived.now a i _ (omega arith)
-          (ap (λ (x : ℕ). get_or a i 0 + x) c.bit.ensures) s.loop-i.invariant.2,
+      length-set a i (get_or a i 0 + c.bit.result) ∙ c.loop-i.invariant.1,
+      partly_more (in_mask c.args.mask) c.args.arrived.now a i _ (omega arith)
+          (ap (λ (x : ℕ). get_or a i 0 + x) c.bit.ensures) c.loop-i.invariant.2,
     )
 
 pub shape_of-arrived : goal.shape_of-arrived

@@ -14,5 +14,4 @@ pub overflow_add-outputs : goal.overflow_add-outputs
 overflow_add-outputs c = omega (arith, c.requires.low (c.args.task - 1) (omega arith))
 
 pub returns : goal.returns
-returns c = let c3 = c in
-    one_task c3.args.outputs.now c3.args.task _ c3.requires.long (omega arith) (omega arith) refl
+returns c = one_task c.args.outputs.now c.args.task _ c.requires.long (omega arith) (omega arith) refl

@@ -5,6 +5,6 @@ use Rattle.text.proofs.lines.put_accept.Goals as goal
 
 pub returns : goal.returns
 returns c = record {
-      puts = search (rules, put_then);
-      short = omega arith;
-    }
+  puts = search (rules, put_then);
+  short = omega arith;
+}

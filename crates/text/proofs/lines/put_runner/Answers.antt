@@ -3,7 +3,8 @@ use native.Mathlib.Omega.{arith}
 use Rattle.text.proofs.lines.put_runner.Goals as goal
 
 pub returns : goal.returns
-returns c = let p = c.put_number.ensures in
+returns c =
+    let p = c.put_number.ensures in
     let q = c.put_byte-a.ensures in
     record {
       puts = put_then q p.puts;
