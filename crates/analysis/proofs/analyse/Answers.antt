@@ -5,7 +5,6 @@ use Rattle.equations.specs.Analysis.{table_check, analysis}
 use Rattle.equations.specs.declared.Checked.TheVariants.{Passed}
 use Rattle.equations.proofs.Checks.{results_short, results_fit, refused_1_to_3, refused_4, entered, results_by_lem}
 use Rattle.analysis.proofs.analyse.Goals.{In_default}
-use Rattle.analysis.proofs.analyse.Lts as lts
 use Rattle.analysis.proofs.analyse.Goals as goal
 
 table_passes : (c : In_default) → table_check c.args.table.now ≡ Passed

@@ -1,14 +1,13 @@
 use mathlib.Core.Path.{◌≡◌, refl, sym, ap, ◌∙◌}
 use mathlib.Core.List.{List, ◌++◌}
 use Prim.Native.Nat.{ℕ, ◌*◌}
-use native.Mathlib.Omega.{arith}
 use lib.ListN.{drop}
 use Rattle.equations.specs.Table.{rows}
 use Rattle.equations.specs.Analysis.{hypertask_check, guest_check}
 use Rattle.equations.specs.declared.Checked.TheVariants.{Passed}
 use Rattle.equations.proofs.Checks.{refused_5_or_6, refused_7_or_19, accepted}
 use Rattle.analysis.specs.Loops.{Filled, GuestsFilled}
-use Rattle.analysis.proofs.Loops.{offsets, results_are}
+use Rattle.analysis.proofs.Loops.{results_are}
 use Rattle.analysis.proofs.solve.Goals.{In_default, In_default-guests}
 use Rattle.analysis.proofs.solve.Goals as goal
 
@@ -40,14 +39,14 @@ returns-in-Stopped c = let s = c.args.table.now in
 
 pub returns-in-Stopped-guests : goal.returns-in-Stopped-guests
 returns-in-Stopped-guests c = let s = c.args.table.now in record {
-      value = sym (refused_7_or_19 s _ (hypertasks_pass (goal.at.returns-in-Stopped-guests c).In_default) (sym c.guests.ensures.value
-          ∙ c.in-Stopped-guests.is));
-      lent_after = refl;
-    }
+  value = sym (refused_7_or_19 s _ (hypertasks_pass (goal.at.returns-in-Stopped-guests c).In_default) (sym c.guests.ensures.value
+      ∙ c.in-Stopped-guests.is));
+  lent_after = refl;
+}
 
 pub returns : goal.returns
 returns c = let s = c.args.table.now in record {
-      value = sym (accepted s (hypertasks_pass (goal.at.returns c).In_default) (guests_pass (goal.at.returns c).In_default-guests));
-      lent_after = c.write.ensures ∙ ap (λ (x : List ℕ). x ++ drop (3 * rows s) c.args.lent.now) (results_are s _ _ _ (rows s) (filled (goal.at.returns c).In_default)
-          (guests_filled (goal.at.returns c).In_default-guests));
-    }
+  value = sym (accepted s (hypertasks_pass (goal.at.returns c).In_default) (guests_pass (goal.at.returns c).In_default-guests));
+  lent_after = c.write.ensures ∙ ap (λ (x : List ℕ). x ++ drop (3 * rows s) c.args.lent.now) (results_are s _ _ _ (rows s) (filled (goal.at.returns c).In_default)
+      (guests_filled (goal.at.returns c).In_default-guests));
+}

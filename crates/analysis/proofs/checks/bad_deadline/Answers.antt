@@ -1,8 +1,7 @@
 use mathlib.Core.Path.{ap, sym}
-use Prim.Native.Nat.{◌-◌}
 use native.Mathlib.Omega.{arith}
 use borrow.Author.Tests.{lt-ltb, le-ltb}
-use Rattle.least.proofs.Where.{walk_start, walk_next, walk_found, walk_none}
+use Rattle.least.proofs.Where.{walk_next, walk_found, walk_none}
 use Rattle.equations.specs.Analysis.{bad_deadline}
 use Rattle.analysis.specs.Loops.{place_of}
 use Rattle.analysis.proofs.checks.bad_deadline.Goals as goal

@@ -1,7 +1,6 @@
 use mathlib.Core.Path.{refl, ap, sym}
-use Prim.Native.Nat.{◌-◌}
 use native.Mathlib.Omega.{arith}
-use Rattle.least.proofs.Where.{walk_start, walk_next, walk_found, walk_none}
+use Rattle.least.proofs.Where.{walk_next, walk_found, walk_none}
 use Rattle.equations.specs.Analysis.{bad_field}
 use Rattle.equations.proofs.Checks.{field_low, field_high, field_fine}
 use Rattle.analysis.specs.Loops.{place_of}

@@ -1,5 +1,3 @@
-use mathlib.Core.Path.{◌≡◌, ap, ◌∙◌}
-use Prim.Native.Nat.{◌-◌, ◌≤◌}
 use native.Mathlib.Omega.{arith}
 use Rattle.least.specs.Sums.{sum}
 use Rattle.least.proofs.Sums.{sum_step}
@@ -21,7 +19,7 @@ overflow_add-total c = let s = c.args.table.now in
 
 pub loop-j-preserved : goal.loop-j-preserved
 loop-j-preserved c = (
-      omega arith,
-      sum_step (bound c.args.table.now (offsets_in c.args.es.now) c.args.w) _ _ _ c.loop-j.invariant.1
-          c.bound_of-total.ensures,
-    )
+  omega arith,
+  sum_step (bound c.args.table.now (offsets_in c.args.es.now) c.args.w) _ _ _ c.loop-j.invariant.1
+      c.bound_of-total.ensures,
+)

@@ -3,7 +3,6 @@ use Prim.Native.Nat.{◌+◌}
 use native.Mathlib.Omega.{arith}
 use Rattle.equations.specs.Table.{C, K}
 use Rattle.equations.specs.Guest.{WE}
-use Rattle.equations.proofs.Bounds.{C≥1, C≤, K≤, T≤}
 use Rattle.analysis.specs.Loops.{found_of}
 use Rattle.analysis.proofs.Loops.{window_is}
 use Rattle.analysis.proofs.guest.window_begun_by_hypertask.Goals as goal

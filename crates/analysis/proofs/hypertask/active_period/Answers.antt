@@ -1,5 +1,4 @@
 use mathlib.Core.Path.{ap, sym}
-use Prim.Native.Nat.{◌-◌}
 use native.Mathlib.Omega.{arith}
 use Rattle.least.proofs.Least.{seek_start, seek_hit, seek_past, seek_next}
 use Rattle.equations.specs.Hypertask.{active_period}

@@ -1,7 +1,7 @@
 use native.Mathlib.Omega.{arith}
 use Rattle.least.proofs.Sums.{up_le}
 use Rattle.equations.specs.Hypertask.{releases}
-use Rattle.equations.proofs.Bounds.{T≥1, T≤}
+use Rattle.equations.proofs.Bounds.{T≥1}
 use Rattle.analysis.proofs.hypertask.releases.Goals as goal
 
 pub overflow_add-result : goal.overflow_add-result

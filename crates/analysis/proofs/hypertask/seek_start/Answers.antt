@@ -1,7 +1,5 @@
-use Prim.Native.Nat.{◌-◌}
 use native.Mathlib.Nat.{sub-zero}
-use native.Mathlib.Omega.{arith}
-use Rattle.least.proofs.Least.{seek_start, seek_hit, seek_past, seek_next}
+use Rattle.least.proofs.Least.{seek_hit, seek_past, seek_next}
 use Rattle.analysis.proofs.Loops.{sought, sought_none, starts_from_never_falls}
 use Rattle.analysis.proofs.hypertask.seek_start.Goals as goal
 

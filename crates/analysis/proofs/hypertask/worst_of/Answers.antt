@@ -1,10 +1,9 @@
 use mathlib.Core.Path.{◌≡◌, ap, sym, ◌∙◌}
 use mathlib.Core.Option.{some}
-use Prim.Native.Nat.{suc, ◌-◌}
+use Prim.Native.Nat.{suc}
 use native.Mathlib.Omega.{arith}
-use Rattle.equations.specs.Table.{T}
 use Rattle.equations.specs.Hypertask.{job_response, worst}
-use Rattle.equations.proofs.Jobs.{job_begins, worst_more, worst_none}
+use Rattle.equations.proofs.Jobs.{worst_more, worst_none}
 use Rattle.analysis.specs.Loops.{found_of}
 use Rattle.analysis.proofs.Loops.{found_some, found_none}
 use borrow.Author.Rules.{rules}

@@ -1,5 +1,4 @@
 use mathlib.Core.Path.{◌≡◌, sym, ◌∙◌}
-use Prim.Native.Nat.{◌-◌}
 use native.Mathlib.Omega.{arith}
 use Rattle.equations.specs.Table.{rows}
 use Rattle.equations.specs.Guest.{guest}
@@ -7,8 +6,8 @@ use Rattle.equations.specs.Analysis.{guest_check}
 use Rattle.equations.specs.declared.Response.TheVariants.{Is}
 use Rattle.equations.proofs.Bounds.{T≤, D≤, E≤D}
 use Rattle.equations.proofs.Jobs.{guest≤}
-use Rattle.equations.proofs.Checks.{stopped_passed, rows_start, rows_stop, rows_next, rows_end}
-use Rattle.analysis.proofs.Loops.{guests_none, guests_more}
+use Rattle.equations.proofs.Checks.{stopped_passed, rows_stop, rows_next, rows_end}
+use Rattle.analysis.proofs.Loops.{guests_more}
 use Rattle.analysis.proofs.results.guests.Goals.{In-Is}
 use Rattle.analysis.proofs.results.guests.Goals as goal
 

@@ -1,5 +1,3 @@
-use native.Mathlib.Omega.{arith}
-use lib.ListN.{length-set}
 use Rattle.analysis.proofs.Loops.{set_three}
 use Rattle.analysis.proofs.results.put_three.Goals as goal
 

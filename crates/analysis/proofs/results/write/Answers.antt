@@ -1,8 +1,5 @@
-use mathlib.Core.Path.{◌≡◌, refl, ap, ◌∙◌}
-use mathlib.Core.List.{◌++◌}
-use Prim.Native.Nat.{ℕ, ◌-◌, ◌*◌}
+use mathlib.Core.Path.{refl, ◌∙◌}
 use native.Mathlib.Omega.{arith}
-use lib.ListN.{drop}
 use Rattle.least.specs.Lists.{flat}
 use Rattle.analysis.specs.Loops.{three_in}
 use Rattle.least.proofs.Lists.{block_more}
@@ -14,7 +11,7 @@ loop-i-init c = (omega arith, refl, refl)
 
 pub loop-i-preserved : goal.loop-i-preserved
 loop-i-preserved c = let l = c.loop-i in (
-      omega arith,
-      c.put_three.ensures ∙ block_more (three_in c.args.rs.now c.args.es.now c.args.gs.now) 3 (λ k. refl) c.args.lent.now l.lent l.i l.invariant.1,
-      omega arith,
-    )
+  omega arith,
+  c.put_three.ensures ∙ block_more (three_in c.args.rs.now c.args.es.now c.args.gs.now) 3 (λ k. refl) c.args.lent.now l.lent l.i l.invariant.1,
+  omega arith,
+)
