@@ -84,6 +84,10 @@ stored l n x P h f p j q = ⊎_elim
     below r = omega arith
 
 module _ (s : List ℕ) where
+  pub filled_none : (rs es : List ℕ) → length rs ≡ 32 → length es ≡ 32 → Filled s rs es 0
+  filled_none rs es h g =
+      record { long = h; long' = g; r = λ j q. absurd (lt_irrefl 0 (omega arith)); e = λ j q. absurd (lt_irrefl 0 (omega arith)) }
+
   pub filled_more : (rs es : List ℕ) (i r : ℕ) → Filled s rs es i → i < 32 → response s i ≡ Is r
       → Filled s (set rs i r) (set es i (D s i - r)) (i + 1)
   filled_more rs es i r f h q =
@@ -93,6 +97,12 @@ module _ (s : List ℕ) where
         r = stored rs i r (λ j x. response s j ≡ Is x) (omega (arith, f.long)) f.r q;
         e = stored es i (D s i - r) (λ j x. x ≡ E s j) (omega (arith, f.long')) f.e (sym (offset_is s i r q));
       }
+
+  pub offsets : (rs es : List ℕ) → Filled s rs es (rows s) → Offsets s es
+  offsets rs es f = record { long = f.long'; at = f.e }
+
+  pub guests_none : (gs : List ℕ) → length gs ≡ 32 → GuestsFilled s gs 0
+  guests_none gs h = record { long = h; g = λ j q. absurd (lt_irrefl 0 (omega arith)) }
 
   pub guests_more : (gs : List ℕ) (i x : ℕ) → GuestsFilled s gs i → i < 32 → guest s i ≡ Is x → GuestsFilled s (set gs i x) (i + 1)
   guests_more gs i x f h q =

@@ -5,9 +5,9 @@ use mathlib.Core.Bool.{Bool, true, false, not, ◌||◌, or-true}
 use mathlib.Core.List.{List}
 use mathlib.Core.Option.{Option, none, some}
 use Prim.Native.Nat.{ℕ, suc, ◌+◌, ◌-◌, ◌*◌, ◌≤◌, ◌<◌}
-use native.Mathlib.Nat.{pos_of_ne-zero}
+use native.Mathlib.Nat.{lt_irrefl, pos_of_ne-zero}
 use native.Mathlib.Omega.{arith}
-use borrow.Author.Tests.{lt-ltb, le-ltb, eq-eqb}
+use borrow.Author.Tests.{lt-ltb, le-ltb, eq-eqb, ne_eqb}
 use lib.Dec.{ltb, eqb}
 use lib.ListN.{get_or}
 use Rattle.refusals.specs.declared.Refusal.{Refusal}
@@ -63,6 +63,15 @@ unfolding start_at
 start_next f i h = let z : i ≡ suc (i - 1) = omega (arith, pos_of_ne-zero h) in ap (start_at f) z
 
 module _ (start : ℕ) (last : Bool) (len : ℕ) (e : Entry) where
+  pub too_early : e.offset < start → wrong_place start last len e ≡ true
+  too_early h = rw (ne_eqb e.offset start (λ q. lt_irrefl 0 (omega arith)))
+
+  pub gap : start < e.offset → wrong_place start last len e ≡ true
+  gap h = rw (ne_eqb e.offset start (λ q. lt_irrefl 0 (omega arith)))
+
+  pub too_long : len < e.offset + e.length → wrong_place start last len e ≡ true
+  too_long h = rw (lt-ltb len (e.offset + e.length) h, or-true (not (eqb e.offset start)))
+
   pub last_placed : last ≡ true → e.offset ≡ start → e.offset + e.length ≤ len
       → wrong_place start last len e ≡ not (eqb (e.offset + e.length) len)
   last_placed l a b = rw (eq-eqb e.offset start a, le-ltb len (e.offset + e.length) b, l)
