@@ -26,19 +26,6 @@ returns-then-age_of-e c = rw (
   le-ltb _ _ c.if-age_of-e.true,
 )
 
-pub returns-then-w-lt32 : goal.returns-then-w-lt32
-unfolding stage_fits
-returns-then-w-lt32 c = rw (
-  c.nothing-then-w-lt32.ensures,
-  le-leb _ _ c.if-clock-a.false,
-  le-leb _ _ c.if-l-lt1.false,
-  le-leb _ _ c.if-k-l.false,
-  ← c.age_of.ensures,
-  lt-ltb _ _ c.if-age_of-e.false,
-  lt-ltb _ _ c.if-l-k.true,
-  lt-ltb _ _ c.if-w-lt32.true,
-)
-
 pub returns-else-w-lt32 : goal.returns-else-w-lt32
 unfolding stage_fits stage_seen
 returns-else-w-lt32 c = rw (

@@ -5,15 +5,12 @@ use Rattle.machine.specs.OnePass.{turned_row, row_seen}
 use Rattle.machine.specs.TickRule.{taken, step_of}
 use Rattle.machine.specs.WellFormed.{is_blank}
 use Rattle.machine.specs.Rows.{no_row}
-use lib.ListN.{length, length-map, length-set, get_or}
+use lib.ListN.{length, length-set, get_or}
 use native.Mathlib.Omega.{arith}
-use Prim.Native.Nat.{◌-◌}
-use mathlib.Core.Logic.{⊎_elim}
 use mathlib.Core.Bool.{true, false}
 use mathlib.Core.Path.{◌≡◌, ◌∙◌, sym, ap}
 use Rattle.machine.proofs.Machine.step.Goals as goal
 use Rattle.machine.proofs.Machine.step.Goals.{then-w-2, else-w-2, then-place-lt32, else-place-lt32}
-use borrow.Author.Rules.{rules}
 
 pub returns-then-self-gt32 : goal.returns-then-self-gt32
 unfolding step_of
