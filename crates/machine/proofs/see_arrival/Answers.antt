@@ -13,7 +13,7 @@ returns-then-is_younger c = rw (le-ltb _ _ c.if-refused.false, sym c.is_younger.
 
 pub returns-then-is_hyper : goal.returns-then-is_hyper
 unfolding arrival_seen
-returns-then-is_hyper c = 
+returns-then-is_hyper c =
     rw (
       le-ltb _ _ c.if-refused.false,
       sym c.is_younger.ensures ∙ c.if-is_younger.false,
@@ -23,7 +23,7 @@ returns-then-is_hyper c =
 
 pub returns : goal.returns
 unfolding arrival_seen
-returns c = 
+returns c =
     rw (
       le-ltb _ _ c.if-refused.false,
       sym c.is_younger.ensures ∙ c.if-is_younger.false,
