@@ -1,4 +1,4 @@
-// The same for C and Rust: functions on numbers and slices, a slice passed as a pointer and a length.
+// What C and Rust call: functions on numbers and slices. The crate export_c hands each of them to C under the same name.
 #![tactic(auto)]
 
 mod answers;
@@ -18,8 +18,7 @@ use plan::Writing;
 use report::Reported;
 
 // The analysis of a table: 0 and the number of tasks where it is accepted, else the refusal's number and place.
-#[unsafe(no_mangle)]
-pub extern "C" fn tollsalmon_analyse(table: &[u32], results: &mut [u32], place: &mut u64) -> u32
+pub fn tollsalmon_analyse(table: &[u32], results: &mut [u32], place: &mut u64) -> u32
     ensures { AnalysesTable table.now results.old result place.new results.new }
 {
     let a = analysis::analyse(table, results);
@@ -29,8 +28,7 @@ pub extern "C" fn tollsalmon_analyse(table: &[u32], results: &mut [u32], place: 
 
 // A fresh machine of a table into 258 lent numbers: 0 and the number of tasks, else the refusal's number and place. A refused
 // table leaves the machine with no rows; numbers that are too few are left as they are.
-#[unsafe(no_mangle)]
-pub extern "C" fn tollsalmon_start(table: &[u32], state: &mut [u64], place: &mut u64) -> u32
+pub fn tollsalmon_start(table: &[u32], state: &mut [u64], place: &mut u64) -> u32
     ensures { StartsMachine table.now state.old result place.new state.new }
 {
     if state.len() < 258 {
@@ -47,8 +45,7 @@ pub extern "C" fn tollsalmon_start(table: &[u32], state: &mut [u64], place: &mut
 
 // The ticks of a run of records from the machine in lent numbers, their answers to the front of lent bytes: 0 and how many, or 8
 // for a state that can't be read.
-#[unsafe(no_mangle)]
-pub extern "C" fn tollsalmon_ticks(
+pub fn tollsalmon_ticks(
     state: &mut [u64],
     records: &[u8],
     answers: &mut [u8],
@@ -74,8 +71,7 @@ pub extern "C" fn tollsalmon_ticks(
 
 // One tick from the machine in lent numbers, its answer to the front of lent bytes: 0, or the refusal's number and place, and then
 // nothing is touched.
-#[unsafe(no_mangle)]
-pub extern "C" fn tollsalmon_step(
+pub fn tollsalmon_step(
     state: &mut [u64],
     mask: u32,
     signal: u8,
@@ -114,8 +110,7 @@ pub extern "C" fn tollsalmon_step(
 }
 
 // Whether bytes are a plan file: 0 and place 0, or the refusal's number and place.
-#[unsafe(no_mangle)]
-pub extern "C" fn tollsalmon_check(file: &[u8], place: &mut u64) -> u32
+pub fn tollsalmon_check(file: &[u8], place: &mut u64) -> u32
     ensures { ChecksFile file.now result place.new }
 {
     match plan::reader::check(file) {
@@ -131,8 +126,7 @@ pub extern "C" fn tollsalmon_check(file: &[u8], place: &mut u64) -> u32
 }
 
 // The table of a plan file to the front of lent numbers, where they are enough: how many numbers it has, 0 for a refused file.
-#[unsafe(no_mangle)]
-pub extern "C" fn tollsalmon_table(file: &[u8], table: &mut [u32]) -> u64
+pub fn tollsalmon_table(file: &[u8], table: &mut [u32]) -> u64
     ensures { ReadsTable file.now table.old result table.new }
 {
     let rows = plan::reader::rows_of(file);
@@ -141,8 +135,7 @@ pub extern "C" fn tollsalmon_table(file: &[u8], table: &mut [u32]) -> u64
 }
 
 // The script of a plan file to the front of lent bytes, where they are enough: how many bytes it has, 0 for a refused file.
-#[unsafe(no_mangle)]
-pub extern "C" fn tollsalmon_script(file: &[u8], script: &mut [u8]) -> u64
+pub fn tollsalmon_script(file: &[u8], script: &mut [u8]) -> u64
     ensures { ReadsScript file.now script.old result script.new }
 {
     let part = plan::reader::script_of(file);
@@ -154,13 +147,7 @@ pub extern "C" fn tollsalmon_script(file: &[u8], script: &mut [u8]) -> u64
 }
 
 // The plan file of a table and a script to the front of lent bytes: 0 and the file's length, or the refusal's number and place.
-#[unsafe(no_mangle)]
-pub extern "C" fn tollsalmon_write(
-    table: &[u32],
-    script: &[u8],
-    output: &mut [u8],
-    place: &mut u64,
-) -> u32
+pub fn tollsalmon_write(table: &[u32], script: &[u8], output: &mut [u8], place: &mut u64) -> u32
     ensures { WritesFile table.now script.now output.old result place.new output.new }
 {
     match plan::writer::write(table, script, output) {
@@ -176,8 +163,7 @@ pub extern "C" fn tollsalmon_write(
 }
 
 // The whole text of a plan's run to the front of lent bytes, where they are enough: how many bytes it has.
-#[unsafe(no_mangle)]
-pub extern "C" fn tollsalmon_report(file: &[u8], text: &mut [u8]) -> u64
+pub fn tollsalmon_report(file: &[u8], text: &mut [u8]) -> u64
     ensures { PrintsRun file.now text.old result text.new }
 {
     match report::report(file, text) {
