@@ -1,10 +1,10 @@
 -- Laws of tests, and what the tests of a row and its stage say. Assumes nothing.
 use mathlib.Core.Path.{◌≡◌, refl, ◌∙◌, sym}
 use mathlib.Core.Bool.{Bool, true, false, not, ◌&&◌, ◌||◌, true≢false}
-use Prim.Native.Nat.{ℕ, ◌+◌, ◌≤◌, ◌<◌}
+use Prim.Native.Nat.{ℕ, ◌+◌, ◌-◌, ◌≤◌, ◌<◌}
 use native.Mathlib.Omega.{arith}
 use lib.Dec.{leb, ltb, eqb}
-use borrow.Author.Tests.{ltb-true, leb-true, leb-false, lt-ltb, le-ltb, le-leb}
+use borrow.Author.Tests.{ltb-true, leb-true, leb-false, lt-ltb, le-ltb, le-leb, eqb-true, eq-eqb}
 use Rattle.machine.specs.declared.Stage.{Stage}
 use Rattle.machine.specs.declared.Row.{Row}
 use Rattle.machine.specs.Rows.{age, is_never}
@@ -44,6 +44,13 @@ not_leb x y = go (leb x y) refl
     go : (b : Bool) → leb x y ≡ b → ltb y x ≡ not b
     go true e = le-ltb y x (leb-true x y e)
     go false e = lt-ltb y x (leb-false x y e)
+
+-- the last tick of a hypertask
+pub last_tick : (l : ℕ) → leb l 1 ≡ eqb (l - 1) 0
+last_tick l =
+    same_test (leb l 1) (eqb (l - 1) 0)
+    (λ q. eq-eqb (l - 1) 0 (omega (arith, leb-true l 1 q)))
+    (λ q. le-leb l 1 (omega (arith, eqb-true (l - 1) 0 q)))
 
 -- the age of a job: what the arrival lacks to the clock; none when it arrives, and one more with each tick
 pub age_sum : (clock arrival : ℕ) → arrival ≤ clock → arrival + age clock arrival ≡ clock
