@@ -35,6 +35,7 @@ MEANT = {
     "past-from": "past_from_lem",
     "row-c": "row_c_lem",
     "row-of": "row_of_lem",
+    "ran-from": "ran_from_lem",
     # fields beside a definition
     "one-begun": "begun_once",
     "well-formed": "is_well_formed",
@@ -53,6 +54,8 @@ MEANT_IN = {
     "crates/demands/proofs/Runs.antt": {"fresh_at": "fresh_at_lem"},
 }
 DEFINED = re.compile(r"^(?:(?:abbrev|unfoldable|pub)\s+)*([^\s:(){}]+)\s*:\s")
+# a lemma inside a module or below a where
+INNER = re.compile(r"^\s+([a-zA-Z][\w'≤]*-[\w\-'≤]*) : (?!goal\.)")
 FIELD = re.compile(r"^\s+(?:pub\s+)?([^\s:(){}]+)\s*:\s")
 TOKEN = re.compile(r"[^\s(){}\[\],;.`\"|]+")
 
@@ -77,15 +80,16 @@ def own_names():
         for line in open(file):
             if re.match(r"(pub )?(use|mod)\b|\s*--", line):
                 continue
-            if "tie." in line and re.match(r"^\S+ : tie\.Need", line):
-                goals.add(line.split()[0])
+            goal = re.match(r"^(?:abbrev )?(?:pub )?(\S+) : (?:tie\.Need|goal\.)", line)
+            if goal:
+                goals.add(goal.group(1))
                 continue
             if re.match(r"^(pub )?(data|record)\b", line) or re.match(r"^\s+pub ", line):
                 inside = True
             elif line.strip() and not line[0].isspace():
                 inside = False
-            found = DEFINED.match(line) or (inside and FIELD.match(line))
-            if found and not re.match(r"^(pub )?(data|record)\b", line):
+            found = DEFINED.match(line) or (inside and FIELD.match(line)) or INNER.match(line)
+            if found and not re.match(r"^(pub )?(data|record) ", line):
                 names[found.group(1)].add(file)
     return {name: files for name, files in names.items() if name not in goals}
 

@@ -76,16 +76,16 @@ pub named_is_chosen : (m : Machine) (t : Tick) (said : Taken) (i : ℕ) → (ste
 unfolding step_of taken
 named_is_chosen m t said i e w = go (verdict m t.mask) e
   where
-    said-is : (a b : Taken) → Answer.Taken a ≡ Answer.Taken b → a ≡ b
-    said-is a b e = cc
+    said_is : (a b : Taken) → Answer.Taken a ≡ Answer.Taken b → a ≡ b
+    said_is a b e = cc
 
     by : (f : Found) → chosen (rows_for m t) ≡ f → (ran_on m.count m.clock (rows_for m t) t.signal t.early f).answer ≡ Answer.Taken said
         → chosen (rows_for m t) ≡ at i
     by (at k) q e =
         let y : Row = row_at (rows_for m t) k in
-        let z : (ran_from (k + 1) t.signal t.early y.c y.stage).taken ≡ said = said-is _ said e in
+        let z : (ran_from (k + 1) t.signal t.early y.c y.stage).taken ≡ said = said_is _ said e in
         q ∙ ap at (named_ran k i t.signal t.early y.c y.stage (rw (← z) at w))
-    by none q e = let z : nobody_ran t.signal ≡ said = said-is _ said e in clash (rw (← z) at w)
+    by none q e = let z : nobody_ran t.signal ≡ said = said_is _ said e in clash (rw (← z) at w)
 
     go : (v : Verdict) → (step_by m t.mask t.signal t.early v).answer ≡ Answer.Taken said → chosen (rows_for m t) ≡ at i
     go (refused y) e = absurd (let z : ◌≡◌ {A = ℕ} 0 1 = cc in omega arith)
@@ -121,9 +121,9 @@ module _ (s : List ℕ) (m : ℕ) (ok : start_answer s ≡ Accepted m) (ticks : 
   S = run_from s m ok 0 ticks
 
   -- in a tick that is taken, a row of the table carries its latest arrival, in that tick or before it
-  carries-latest : verdict X.machine t.mask ≡ accepted → (i : ℕ) → i < rows s →
+  carries_latest : verdict X.machine t.mask ≡ accepted → (i : ℕ) → i < rows s →
       arrival_of (stage_at (rows_for X.machine t) i) ≡ latest more i (suc (length X.taken))
-  carries-latest v i inside =
+  carries_latest v i inside =
       let L : Legal (row_of s) (rows s) X.machine.clock t.mask X.machine.rows =
       legal (row_of s) (rows s) X.machine t.mask S.count S.all.wf v in
       let q = turned_stage_lem (row_of s) (rows s) (fits s (R s) (G s) sch) X.machine.clock t.mask 0 false X.machine.rows S.all.wf L i inside in
@@ -135,10 +135,10 @@ module _ (s : List ℕ) (m : ℕ) (ok : start_answer s ≡ Accepted m) (ticks : 
       ∙ sym (latest_now X.taken (record { tick = t; said = said }) i)
 
   -- a row past the table is Never after steps 1 and 2, so the one that runs is in it
-  runs-inside : verdict X.machine t.mask ≡ accepted → (i : ℕ) → i < length (rows_for X.machine t) →
+  runs_inside : verdict X.machine t.mask ≡ accepted → (i : ℕ) → i < length (rows_for X.machine t) →
       (is_hyper (stage_at (rows_for X.machine t) i) || has_budget (row_at (rows_for X.machine t) i).c (stage_at (rows_for X.machine t) i)) ≡ true →
       i < rows s
-  runs-inside v i h runs =
+  runs_inside v i h runs =
       elim (dec_le (suc i) (rows s)) [
         | yes k ↦ k
         | no k ↦ (
@@ -192,15 +192,15 @@ module _ (s : List ℕ) (m : ℕ) (ok : start_answer s ≡ Accepted m) (before :
   abbrev e : TakenTick
   e = record { tick = t; said = said }
 
-  ran-from : (step_of Y.machine t.mask t.signal t.early).answer ≡ Answer.Taken said → is_row_of i said.ran ≡ true →
+  ran_from_lem : (step_of Y.machine t.mask t.signal t.early).answer ≡ Answer.Taken said → is_row_of i said.ran ≡ true →
       JobThatRan Y.machine t said (run (fresh_at (rows_of s m) 0) (before ++ t ∷ later)).taken i (length Y.taken)
   unfolding onward after
-  ran-from a w =
+  ran_from_lem a w =
       let v = was_accepted Y.machine t.mask t.signal t.early said a in
       let q = named_is_chosen Y.machine t said i a w in
       let k = chosen_runs (rows_for Y.machine t) i q in
       let c = runs_carries (row_at (rows_for Y.machine t) i).c (stage_at (rows_for Y.machine t) i) k.1 in
-      let inside = runs-inside s m ok before t said v i k.0 k.1 in
+      let inside = runs_inside s m ok before t said v i k.0 k.1 in
       let z : (after Y t).taken ≡ Y.taken ++ (e ∷ []) = rw a in
       let lo : length Y.taken < length (after Y t).taken = omega (arith, ap length z, more_length Y.taken e) in
       let k = stays later (after Y t) (length Y.taken) lo in
@@ -213,7 +213,7 @@ module _ (s : List ℕ) (m : ℕ) (ok : start_answer s ≡ Accepted m) (before :
         booked = λ n.
             k.1 i n
             ∙ ap (λ (l : List TakenTick). booked_to l i n (length Y.taken)) z
-            ∙ ap (is_at n) (sym (carries-latest s m ok before t said v i inside) ∙ c.1);
+            ∙ ap (is_at n) (sym (carries_latest s m ok before t said v i inside) ∙ c.1);
       })
 
 -- For every table that the start accepts, every run, every tick of it that is taken and the row that its answer names.
@@ -222,4 +222,4 @@ pub job_that_ran : (s : List ℕ) (m : ℕ) → start_answer s ≡ Accepted m �
     (step_of (run (start_of s).machine before).machine t.mask t.signal t.early).answer ≡ Answer.Taken said → is_row_of i said.ran ≡ true →
     JobThatRan (run (start_of s).machine before).machine t said (run (start_of s).machine (before ++ t ∷ later)).taken i
     (length (run (start_of s).machine before).taken)
-job_that_ran s m ok before t later said i = rw (started s m ok) (ran-from s m ok before t later said i)
+job_that_ran s m ok before t later said i = rw (started s m ok) (ran_from_lem s m ok before t later said i)

@@ -44,8 +44,8 @@ sum_one_at k (suc n) h =
 
 -- Every output is booked to one job: p says which ticks give one.
 module _ (l : List TakenTick) (i : ℕ) (p : ℕ → Bool) (job : (x : ℕ) → p x ≡ true → (n : ℕ) × (latest l i (suc x) ≡ at n)) where
-  booked-once : (x : ℕ) → x < length l → sum (λ n. one (p x && booked_to l i n x)) (length l) ≡ one (p x)
-  booked-once x h = go (p x) refl
+  booked_once : (x : ℕ) → x < length l → sum (λ n. one (p x && booked_to l i n x)) (length l) ≡ one (p x)
+  booked_once x h = go (p x) refl
     where
       go : (b : Bool) → p x ≡ b → sum (λ n. one (b && booked_to l i n x)) (length l) ≡ one b
       go true q =
@@ -59,7 +59,7 @@ module _ (l : List TakenTick) (i : ℕ) (p : ℕ → Bool) (job : (x : ℕ) → 
   pub outputs_all : sum (λ n. number_of (λ x. p x && booked_to l i n x) (length l)) (length l) ≡ number_of p (length l)
   outputs_all =
       sum_swap (λ n x. one (p x && booked_to l i n x)) (length l) (length l)
-      ∙ sum_same (λ x. sum (λ n. one (p x && booked_to l i n x)) (length l)) (λ x. one (p x)) (length l) booked-once
+      ∙ sum_same (λ x. sum (λ n. one (p x && booked_to l i n x)) (length l)) (λ x. one (p x)) (length l) booked_once
 
 -- a count that is nought or one
 nought_or_one : (b : Bool) (x y : ℕ) → x + y ≡ one b → one b ≡ x + one (b && eqb x 0)
@@ -80,13 +80,13 @@ has_open (Stage.Hyper a k) = true
 has_open (Stage.Closed a) = false
 
 module _ (c₀ : ℕ) (r : Row) (l : List TakenTick) (i : ℕ) (z : Stage) (B : Booked c₀ r l i z) where
-  guest-all : sum (guest_outputs l i) (length l) ≡ guest_outputs_of l i
+  guest_all : sum (guest_outputs l i) (length l) ≡ guest_outputs_of l i
   unfolding guest_outputs guest_outputs_of
-  guest-all = outputs_all l i (guest_gives l i) B.guest_job
+  guest_all = outputs_all l i (guest_gives l i) B.guest_job
 
-  hypertask-all : sum (hypertask_outputs l i) (length l) ≡ hypertask_outputs_of l i
+  hypertask_all : sum (hypertask_outputs l i) (length l) ≡ hypertask_outputs_of l i
   unfolding hypertask_outputs hypertask_outputs_of
-  hypertask-all = outputs_all l i (hypertask_gives l i) B.hypertask_job
+  hypertask_all = outputs_all l i (hypertask_gives l i) B.hypertask_job
 
   abbrev outputs : ℕ → ℕ
   outputs n = guest_outputs l i n + hypertask_outputs l i n
@@ -94,21 +94,21 @@ module _ (c₀ : ℕ) (r : Row) (l : List TakenTick) (i : ℕ) (z : Stage) (B : 
   each : (n : ℕ) → one (brought l i n) ≡ outputs n + one (is_open l i n)
   each n = nought_or_one (brought l i n) (outputs n) (one (is_at (c₀ + n) (open_arrival z))) (B.once n)
 
-  arrived-all : jobs_arrived l i ≡ guest_outputs_of l i + hypertask_outputs_of l i + jobs_open l i
+  arrived_all : jobs_arrived l i ≡ guest_outputs_of l i + hypertask_outputs_of l i + jobs_open l i
   unfolding jobs_arrived jobs_open
-  arrived-all =
+  arrived_all =
       omega (
         arith,
         sum_same (λ n. one (brought l i n)) (λ n. outputs n + one (is_open l i n)) (length l) (λ n h. each n),
         sum_add outputs (λ n. one (is_open l i n)) (length l),
         sum_add (guest_outputs l i) (hypertask_outputs l i) (length l),
-        guest-all,
-        hypertask-all,
+        guest_all,
+        hypertask_all,
       )
 
   -- a job that came has no output exactly while the stage of its row is Guest or Hyper with its arrival
-  open-exactly : (n : ℕ) → brought l i n ≡ true → (outputs n ≡ 0) ↔ (open_arrival z ≡ at (c₀ + n))
-  open-exactly n b = (
+  open_exactly : (n : ℕ) → brought l i n ≡ true → (outputs n ≡ 0) ↔ (open_arrival z ≡ at (c₀ + n))
+  open_exactly n b = (
     λ e. held (is_at (c₀ + n) (open_arrival z)) refl (omega (arith, B.once n, ap one b)),
     λ e. omega (arith, B.once n, ap one b, one_of e),
   )
@@ -120,13 +120,13 @@ module _ (c₀ : ℕ) (r : Row) (l : List TakenTick) (i : ℕ) (z : Stage) (B : 
       held true q e = is_at_lem (c₀ + n) (open_arrival z) q
       held false q e = absurd (omega arith)
 
-  open-as : (n : ℕ) → one (is_open l i n) ≡ one (is_at (c₀ + n) (open_arrival z))
-  open-as n = omega (arith, each n, B.once n)
+  open_as : (n : ℕ) → one (is_open l i n) ≡ one (is_at (c₀ + n) (open_arrival z))
+  open_as n = omega (arith, each n, B.once n)
 
   -- so the stage alone shows how many jobs are open
-  open-stage : jobs_open l i ≡ one (has_open z)
+  open_stage : jobs_open l i ≡ one (has_open z)
   unfolding jobs_open
-  open-stage = sum_same (λ n. one (is_open l i n)) (λ n. one (is_at (c₀ + n) (open_arrival z))) (length l) (λ n h. open-as n) ∙ go z B.track
+  open_stage = sum_same (λ n. one (is_open l i n)) (λ n. one (is_at (c₀ + n) (open_arrival z))) (length l) (λ n h. open_as n) ∙ go z B.track
     where
       held : (a : ℕ) (f : Found) → latest l i (length l) ≡ f → at a ≡ shift c₀ f → sum (λ n. one (eqb a (c₀ + n))) (length l) ≡ 1
       held a (at k) q e =
@@ -155,14 +155,14 @@ module _ (s : List ℕ) (m : ℕ) (accepted : start_answer s ≡ Accepted m) whe
     booked = (run_from s m accepted c₀ ticks).jobs i (omega (arith, (schedulable s m accepted).0))
 
     pub counts_from : jobs_arrived X.taken i ≡ guest_outputs_of X.taken i + hypertask_outputs_of X.taken i + jobs_open X.taken i
-    counts_from = arrived-all c₀ (row_of s i) X.taken i (stage_at X.machine.rows i) booked
+    counts_from = arrived_all c₀ (row_of s i) X.taken i (stage_at X.machine.rows i) booked
 
     pub open_while_from : (n : ℕ) → Job m X.taken i n →
         (guest_outputs X.taken i n + hypertask_outputs X.taken i n ≡ 0) ↔ (open_arrival (stage_at X.machine.rows i) ≡ at (c₀ + n))
-    open_while_from n j = open-exactly c₀ (row_of s i) X.taken i (stage_at X.machine.rows i) booked n j.came
+    open_while_from n j = open_exactly c₀ (row_of s i) X.taken i (stage_at X.machine.rows i) booked n j.came
 
     pub open_shown_from : jobs_open X.taken i ≡ one (has_open (stage_at X.machine.rows i))
-    open_shown_from = open-stage c₀ (row_of s i) X.taken i (stage_at X.machine.rows i) booked
+    open_shown_from = open_stage c₀ (row_of s i) X.taken i (stage_at X.machine.rows i) booked
 
   -- Of each task: jobs arrived are guest outputs plus hypertask outputs plus jobs still open.
   pub counts : (ticks : List Tick) (i : ℕ) → i < m →

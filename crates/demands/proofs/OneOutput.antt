@@ -64,11 +64,11 @@ module _ (ticks : List TakenTick) (i n : ℕ) where
       go false q e = inr e
 
   -- in a tick that was taken
-  guest-taken : (x : ℕ) → guest_output ticks i n x ≡ true → x < length ticks
-  guest-taken x e = elim (dec_le (length ticks) x) [ yes k ↦ clash (rw (guest_gave ticks i x k) at e) | no k ↦ omega arith ]
+  guest_taken : (x : ℕ) → guest_output ticks i n x ≡ true → x < length ticks
+  guest_taken x e = elim (dec_le (length ticks) x) [ yes k ↦ clash (rw (guest_gave ticks i x k) at e) | no k ↦ omega arith ]
 
-  hypertask-taken : (x : ℕ) → hypertask_output ticks i n x ≡ true → x < length ticks
-  hypertask-taken x e = elim (dec_le (length ticks) x) [ yes k ↦ clash (rw (hypertask_gave ticks i x k) at e) | no k ↦ omega arith ]
+  hypertask_taken : (x : ℕ) → hypertask_output ticks i n x ≡ true → x < length ticks
+  hypertask_taken x e = elim (dec_le (length ticks) x) [ yes k ↦ clash (rw (hypertask_gave ticks i x k) at e) | no k ↦ omega arith ]
 
   module _ (most : guest_outputs ticks i n + hypertask_outputs ticks i n ≤ 1) where
     not_both : (x y : ℕ) → guest_output ticks i n x ≡ true → hypertask_output ticks i n y ≡ true → ⊥
@@ -77,22 +77,22 @@ module _ (ticks : List TakenTick) (i n : ℕ) where
         omega (
           arith,
           most,
-          counts_one (guest_output ticks i n) (length ticks) x (guest-taken x g) g,
-          counts_one (hypertask_output ticks i n) (length ticks) y (hypertask-taken y h) h,
+          counts_one (guest_output ticks i n) (length ticks) x (guest_taken x g) g,
+          counts_one (hypertask_output ticks i n) (length ticks) y (hypertask_taken y h) h,
         )
 
-    same-tick : (x y : ℕ) → output ticks i n x ≡ true → output ticks i n y ≡ true → x ≡ y
+    same_tick : (x y : ℕ) → output ticks i n x ≡ true → output ticks i n y ≡ true → x ≡ y
     unfolding guest_outputs hypertask_outputs
-    same-tick x y p q = go (either x p) (either y q)
+    same_tick x y p q = go (either x p) (either y q)
       where
         go : (guest_output ticks i n x ≡ true) ⊎ (hypertask_output ticks i n x ≡ true)
             → (guest_output ticks i n y ≡ true) ⊎ (hypertask_output ticks i n y ≡ true) → x ≡ y
         go (inl g) (inl h) =
-            one_place (guest_output ticks i n) (length ticks) x y (omega (arith, most)) (guest-taken x g) (guest-taken y h) g h
+            one_place (guest_output ticks i n) (length ticks) x y (omega (arith, most)) (guest_taken x g) (guest_taken y h) g h
         go (inl g) (inr h) = absurd (not_both x y g h)
         go (inr g) (inl h) = absurd (not_both y x h g)
         go (inr g) (inr h) =
-            one_place (hypertask_output ticks i n) (length ticks) x y (omega (arith, most)) (hypertask-taken x g) (hypertask-taken y h) g h
+            one_place (hypertask_output ticks i n) (length ticks) x y (omega (arith, most)) (hypertask_taken x g) (hypertask_taken y h) g h
 
 -- ## Over `start` and the machine's step
 
@@ -102,7 +102,7 @@ module _ (s : List ℕ) (m : ℕ) (accepted : start_answer s ≡ Accepted m) (ti
 
   -- at any time: two ticks that give an output of the same job are the same tick
   pub no_two_outputs : Job m taken i n → (x y : ℕ) → output taken i n x ≡ true → output taken i n y ≡ true → x ≡ y
-  no_two_outputs j = same-tick taken i n (never_more s m accepted ticks i n j).0
+  no_two_outputs j = same_tick taken i n (never_more s m accepted ticks i n j).0
 
   -- once the job is due: there is one, and no other
   pub one_output : Job m taken i n → Due s taken i n → OneOutput taken i n
@@ -112,7 +112,7 @@ module _ (s : List ℕ) (m : ℕ) (accepted : start_answer s ≡ Accepted m) (ti
       go most (output_tick s taken i n o)
     where
       from : guest_outputs taken i n + hypertask_outputs taken i n ≤ 1 → (x : ℕ) → output taken i n x ≡ true → OneOutput taken i n
-      from most x g = record { tick = x; gives = g; only = λ y q. same-tick taken i n most y x q g; not_both = not_both taken i n most x x }
+      from most x g = record { tick = x; gives = g; only = λ y q. same_tick taken i n most y x q g; not_both = not_both taken i n most x x }
 
       go : guest_outputs taken i n + hypertask_outputs taken i n ≤ 1
           → ((x : ℕ) × (guest_output taken i n x ≡ true) × (x < n + E s i)) ⊎ ((x : ℕ) × (hypertask_output taken i n x ≡ true) × (x < n + D s i))

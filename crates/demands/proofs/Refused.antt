@@ -23,13 +23,13 @@ module _ (s : List ℕ) where
   room : (r e : ℕ → ℕ) → HypertasksPass s r e → 3 * rows s ≤ 96
   room r e p = omega (arith, p.sound.few)
 
-  without-room : (number i : ℕ) (P : Type 0) → (P → 3 * rows s ≤ 96)
+  without_room : (number i : ℕ) (P : Type 0) → (P → 3 * rows s ≤ 96)
       → (says (analysis s 96) ≡ refuses number (i + 1)) ↔ ((3 * rows s ≤ 96) × P)
       → (says (start_of s).answer ≡ refuses number (i + 1)) ↔ P
-  without-room number i P fits a = (λ q. (a.0 (sym same ∙ q)).1, λ p. same ∙ a.1 (fits p, p))
+  without_room number i P fits a = (λ q. (a.0 (sym same ∙ q)).1, λ p. same ∙ a.1 (fits p, p))
 
   pub start_7_exactly : (i : ℕ) → (says (start_of s).answer ≡ refuses 7 (i + 1)) ↔ GuestWindowFails s i
-  start_7_exactly i = without-room 7 i (GuestWindowFails s i) (λ p. room p.r p.e p.reached.hypertasks) (refused_7_exactly s 96 i)
+  start_7_exactly i = without_room 7 i (GuestWindowFails s i) (λ p. room p.r p.e p.reached.hypertasks) (refused_7_exactly s 96 i)
 
   pub start_19_exactly : (i : ℕ) → (says (start_of s).answer ≡ refuses 19 (i + 1)) ↔ HypertaskWindowFails s i
-  start_19_exactly i = without-room 19 i (HypertaskWindowFails s i) (λ p. room p.r p.e p.reached.hypertasks) (refused_19_exactly s 96 i)
+  start_19_exactly i = without_room 19 i (HypertaskWindowFails s i) (λ p. room p.r p.e p.reached.hypertasks) (refused_19_exactly s 96 i)

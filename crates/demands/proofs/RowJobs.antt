@@ -194,8 +194,8 @@ module _ (c₀ : ℕ) (r : Row) (l : List TakenTick) (e : TakenTick) (i : ℕ) (
     held_at : (a n : ℕ) → arrival_of s° ≡ at a → is_at (c₀ + n) (at a) ≡ is_at n now
     held_at a n z = ap (is_at (c₀ + n)) (sym z ∙ track°) ∙ shift_at c₀ n now
 
-    arrival-is : (a n : ℕ) → arrival_of s° ≡ at a → now ≡ at n → a ≡ c₀ + n
-    arrival-is a n z y = let w : at a ≡ at (c₀ + n) = sym z ∙ track° ∙ ap (shift c₀) y in cc
+    arrival_is : (a n : ℕ) → arrival_of s° ≡ at a → now ≡ at n → a ≡ c₀ + n
+    arrival_is a n z y = let w : at a ≡ at (c₀ + n) = sym z ∙ track° ∙ ap (shift c₀) y in cc
 
     job_of : (a : ℕ) → arrival_of s° ≡ at a → (n : ℕ) × (now ≡ at n)
     job_of a z = go now refl
@@ -256,76 +256,76 @@ module _ (c₀ : ℕ) (r : Row) (l : List TakenTick) (e : TakenTick) (i : ℕ) (
         omega (arith, once° n, guest_outputs_more l e i n, hypertask_outputs_more l e i n)
 
     -- the tick's own output
-    guest-now : (n : ℕ) → Told i e.said s° s' → guest_said i e.said ≡ true → now ≡ at n → length l < n + r.e
-    guest-now n (silent g h x y) q z = clash (sym g ∙ q)
-    guest-now n (guest a u g h x y) q z =
+    guest_now : (n : ℕ) → Told i e.said s° s' → guest_said i e.said ≡ true → now ≡ at n → length l < n + r.e
+    guest_now n (silent g h x y) q z = clash (sym g ∙ q)
+    guest_now n (guest a u g h x y) q z =
         let k : Okay° r c (Stage.Guest a u) = rw x at o° in
-        omega (arith, arrival-is a n (ap arrival_of x) z, k.1)
-    guest-now n (hypertask a u g h x y) q z = clash (sym g ∙ q)
+        omega (arith, arrival_is a n (ap arrival_of x) z, k.1)
+    guest_now n (hypertask a u g h x y) q z = clash (sym g ∙ q)
 
-    hypertask-now : (n : ℕ) → Told i e.said s° s' → hypertask_said i e.said ≡ true → now ≡ at n → length l < n + r.d
-    hypertask-now n (silent g h x y) q z = clash (sym h ∙ q)
-    hypertask-now n (guest a u g h x y) q z = clash (sym h ∙ q)
-    hypertask-now n (hypertask a u g h x y) q z = omega (arith, arrival-is a n (ap arrival_of x) z, hy a u x)
+    hypertask_now : (n : ℕ) → Told i e.said s° s' → hypertask_said i e.said ≡ true → now ≡ at n → length l < n + r.d
+    hypertask_now n (silent g h x y) q z = clash (sym h ∙ q)
+    hypertask_now n (guest a u g h x y) q z = clash (sym h ∙ q)
+    hypertask_now n (hypertask a u g h x y) q z = omega (arith, arrival_is a n (ap arrival_of x) z, hy a u x)
 
-    guest-of : Told i e.said s° s' → guest_said i e.said ≡ true → (n : ℕ) × (now ≡ at n)
-    guest-of (silent g h x y) q = clash (sym g ∙ q)
-    guest-of (guest a u g h x y) q = job_of a (ap arrival_of x)
-    guest-of (hypertask a u g h x y) q = clash (sym g ∙ q)
+    guest_of : Told i e.said s° s' → guest_said i e.said ≡ true → (n : ℕ) × (now ≡ at n)
+    guest_of (silent g h x y) q = clash (sym g ∙ q)
+    guest_of (guest a u g h x y) q = job_of a (ap arrival_of x)
+    guest_of (hypertask a u g h x y) q = clash (sym g ∙ q)
 
-    hypertask-of : Told i e.said s° s' → hypertask_said i e.said ≡ true → (n : ℕ) × (now ≡ at n)
-    hypertask-of (silent g h x y) q = clash (sym h ∙ q)
-    hypertask-of (guest a u g h x y) q = clash (sym h ∙ q)
-    hypertask-of (hypertask a u g h x y) q = job_of a (ap arrival_of x)
+    hypertask_of : Told i e.said s° s' → hypertask_said i e.said ≡ true → (n : ℕ) × (now ≡ at n)
+    hypertask_of (silent g h x y) q = clash (sym h ∙ q)
+    hypertask_of (guest a u g h x y) q = clash (sym h ∙ q)
+    hypertask_of (hypertask a u g h x y) q = job_of a (ap arrival_of x)
 
-    guest-early' : (n x : ℕ) → guest_output more i n x ≡ true → x < n + r.e
-    guest-early' n x q =
+    guest_early' : (n x : ℕ) → guest_output more i n x ≡ true → x < n + r.e
+    guest_early' n x q =
         elim (dec_le (suc x) (length l)) [
           | yes k ↦ B.guest_early n x (sym (guest_output_before l e i n x k) ∙ q)
           | no k ↦ elim (ℕ_discrete x (length l)) [
             | yes z ↦ (
                 let w = both (guest_said i e.said) (is_at n now) (sym (guest_output_now l e i n) ∙ (rw z at q)) in
-                rw z (guest-now n t w.0 (is_at_lem n now w.1))
+                rw z (guest_now n t w.0 (is_at_lem n now w.1))
                 )
             | no z ↦ guest_after more i x (omega (arith, more_length l e)) (both (guest_gives more i x) (booked_to more i n x) q).0
           ]
         ]
 
-    hypertask-early' : (n x : ℕ) → hypertask_output more i n x ≡ true → x < n + r.d
-    hypertask-early' n x q =
+    hypertask_early' : (n x : ℕ) → hypertask_output more i n x ≡ true → x < n + r.d
+    hypertask_early' n x q =
         elim (dec_le (suc x) (length l)) [
           | yes k ↦ B.hypertask_early n x (sym (hypertask_output_before l e i n x k) ∙ q)
           | no k ↦ elim (ℕ_discrete x (length l)) [
             | yes z ↦ (
                 let w = both (hypertask_said i e.said) (is_at n now) (sym (hypertask_output_now l e i n) ∙ (rw z at q)) in
-                rw z (hypertask-now n t w.0 (is_at_lem n now w.1))
+                rw z (hypertask_now n t w.0 (is_at_lem n now w.1))
                 )
             | no z ↦ hypertask_after more i x (omega (arith, more_length l e)) (both (hypertask_gives more i x) (booked_to more i n x) q).0
           ]
         ]
 
-    guest-job' : (x : ℕ) → guest_gives more i x ≡ true → (n : ℕ) × (latest more i (suc x) ≡ at n)
-    guest-job' x q =
+    guest_job' : (x : ℕ) → guest_gives more i x ≡ true → (n : ℕ) × (latest more i (suc x) ≡ at n)
+    guest_job' x q =
         elim (dec_le (suc x) (length l)) [
           | yes k ↦ (
               let w = B.guest_job x (sym (guest_other l e i x (λ z. absurd (omega arith))) ∙ q) in
               (w.0, latest_before l e i (suc x) k ∙ w.1)
               )
           | no k ↦ elim (ℕ_discrete x (length l)) [
-            | yes z ↦ (let w = guest-of t (sym (guest_last l e i) ∙ (rw z at q)) in (w.0, rw z (latest_now l e i ∙ w.1)))
+            | yes z ↦ (let w = guest_of t (sym (guest_last l e i) ∙ (rw z at q)) in (w.0, rw z (latest_now l e i ∙ w.1)))
             | no z ↦ guest_after more i x (omega (arith, more_length l e)) q
           ]
         ]
 
-    hypertask-job' : (x : ℕ) → hypertask_gives more i x ≡ true → (n : ℕ) × (latest more i (suc x) ≡ at n)
-    hypertask-job' x q =
+    hypertask_job' : (x : ℕ) → hypertask_gives more i x ≡ true → (n : ℕ) × (latest more i (suc x) ≡ at n)
+    hypertask_job' x q =
         elim (dec_le (suc x) (length l)) [
           | yes k ↦ (
               let w = B.hypertask_job x (sym (hypertask_other l e i x (λ z. absurd (omega arith))) ∙ q) in
               (w.0, latest_before l e i (suc x) k ∙ w.1)
               )
           | no k ↦ elim (ℕ_discrete x (length l)) [
-            | yes z ↦ (let w = hypertask-of t (sym (hypertask_last l e i) ∙ (rw z at q)) in (w.0, rw z (latest_now l e i ∙ w.1)))
+            | yes z ↦ (let w = hypertask_of t (sym (hypertask_last l e i) ∙ (rw z at q)) in (w.0, rw z (latest_now l e i ∙ w.1)))
             | no z ↦ hypertask_after more i x (omega (arith, more_length l e)) q
           ]
         ]
@@ -335,8 +335,8 @@ module _ (c₀ : ℕ) (r : Row) (l : List TakenTick) (e : TakenTick) (i : ℕ) (
         record {
           track = track' t ∙ track° ∙ ap (shift c₀) (sym (ap (latest more i) (more_length l e) ∙ latest_now l e i));
           once = λ n. once' n t;
-          guest_early = guest-early';
-          hypertask_early = hypertask-early';
-          guest_job = guest-job';
-          hypertask_job = hypertask-job';
+          guest_early = guest_early';
+          hypertask_early = hypertask_early';
+          guest_job = guest_job';
+          hypertask_job = hypertask_job';
         }

@@ -63,10 +63,10 @@ module _ (s : List ℕ) (r g : ℕ → ℕ) (sch : Schedulable s r (E s) g) wher
         hypertask = K≤ s sch.sound j h;
       })
 
-  every-field : (n : ℕ) → n ≤ rows s → every fields_fit (rows_of s n) ≡ true
+  every_field : (n : ℕ) → n ≤ rows s → every fields_fit (rows_of s n) ≡ true
   unfolding every list_of
-  every-field zero h = refl
-  every-field (suc n) h = every_more fields_fit (rows_of s n) (row_of s n) (every-field n (omega arith)) (fields n (omega arith))
+  every_field zero h = refl
+  every_field (suc n) h = every_more fields_fit (rows_of s n) (row_of s n) (every_field n (omega arith)) (fields n (omega arith))
 
 -- ## Over `start` and the machine's step
 
@@ -79,7 +79,7 @@ module _ (s : List ℕ) (m : ℕ) (accepted : start_answer s ≡ Accepted m) whe
       let some : 1 ≤ length (rows_of s m) = omega (arith, sch.sound.some) in
       let few : length (rows_of s m) ≤ 32 = omega (arith, sch.sound.few) in
       onward_formed (record { machine = fresh_at (rows_of s m) c₀; taken = [] }) ticks (fresh_length (rows_of s m) c₀ few)
-      (fresh_formed (rows_of s m) c₀ some few (every-field s (R s) (G s) sch m (omega arith)) h)
+      (fresh_formed (rows_of s m) c₀ some few (every_field s (R s) (G s) sch m (omega arith)) h)
 
   pub is_well_formed : (ticks : List Tick) → well_formed (run (start_of s).machine ticks).machine ≡ true
   is_well_formed ticks = rw (started s m accepted) (well_formed_from 0 (omega arith) ticks)

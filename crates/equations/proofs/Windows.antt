@@ -103,9 +103,9 @@ module _ (s : List ℕ) (r e g : ℕ → ℕ) (i : ℕ) (w : WindowsReached s r 
   offsets : (j : ℕ) → j ≤ i → e j ≡ E s j
   offsets j b = (pass_numbers s r e w.hypertasks j (omega (arith, w.row))).1
 
-  reached-refused : (lent : ℕ) (f : Refusal) → 3 * rows s ≤ lent → guest s i ≡ Fails f → analysis s lent ≡ Refused f
+  reached_refused : (lent : ℕ) (f : Refusal) → 3 * rows s ≤ lent → guest s i ≡ Fails f → analysis s lent ≡ Refused f
   unfolding guest_check
-  reached-refused lent f h q =
+  reached_refused lent f h q =
       entered s lent (table_complete s w.hypertasks.sound) (results_fit s lent h)
       ∙ refused_7_or_19 s f (hypertasks_complete s r e w.hypertasks)
       (rows_stop (guest s) (rows s) i f (rows_reached (guest s) (rows s) i (omega (arith, w.row)) passed) w.row q)
@@ -113,30 +113,30 @@ module _ (s : List ℕ) (r e g : ℕ → ℕ) (i : ℕ) (w : WindowsReached s r 
       passed : (k : ℕ) → k < i → (x : ℕ) × (guest s k ≡ Is x)
       passed k b = (g k, guest_complete s e k (g k) (λ j c. offsets j (omega arith)) (w.earlier k b))
 
-  same-side : (own v : ℕ) → window_side s e i own v ≡ window_side s (E s) i own v
-  same-side own = window_same s e (E s) i own (λ j b. offsets j (omega arith))
+  same_side : (own v : ℕ) → window_side s e i own v ≡ window_side s (E s) i own v
+  same_side own = window_same s e (E s) i own (λ j b. offsets j (omega arith))
 
   -- where no window is within its limit, none is found
-  window-missing : (own last : ℕ) → ((v : ℕ) → 1 ≤ v → v ≤ last → v ≡ window_side s e i own v → ⊥)
+  window_missing : (own last : ℕ) → ((v : ℕ) → 1 ≤ v → v ≤ last → v ≡ window_side s e i own v → ⊥)
       → first (window_side s (E s) i own) 1 last ≡ none
-  window-missing own last h = by (first (window_side s (E s) i own) 1 last) refl
+  window_missing own last h = by (first (window_side s (E s) i own) 1 last) refl
     where
       by : (o : Option ℕ) → first (window_side s (E s) i own) 1 last ≡ o → o ≡ none
       by none q = refl
       by (some v) q =
           let l = found (window_side s (E s) i own) last 1 v q in
-          absurd (h v l.0.from (omega (arith, l.1)) (l.0.solves ∙ sym (same-side own v)))
+          absurd (h v l.0.from (omega (arith, l.1)) (l.0.solves ∙ sym (same_side own v)))
 
-  WA-missing : NoWA s e i → WA s i ≡ none
+  WA_missing : NoWA s e i → WA s i ≡ none
   unfolding WA
-  WA-missing h = window-missing (C s i) (E s i) (λ v a b. h v a (omega (arith, offsets i (le_refl i))))
+  WA_missing h = window_missing (C s i) (E s i) (λ v a b. h v a (omega (arith, offsets i (le_refl i))))
 
-  WE-missing : NoWE s e i → WE s i ≡ none
+  WE_missing : NoWE s e i → WE s i ≡ none
   unfolding WE
-  WE-missing h = window-missing (C s i + K s i) (T s i) h
+  WE_missing h = window_missing (C s i + K s i) (T s i) h
 
-  WA-there : (v : ℕ) → Least (window_side s e i (C s i)) 1 v → v ≤ e i → WA s i ≡ some v
-  WA-there v l b = WA_finds s i v (least_same _ _ (same-side (C s i)) 1 v l) (omega (arith, offsets i (le_refl i)))
+  WA_there : (v : ℕ) → Least (window_side s e i (C s i)) 1 v → v ≤ e i → WA s i ≡ some v
+  WA_there v l b = WA_finds s i v (least_same _ _ (same_side (C s i)) 1 v l) (omega (arith, offsets i (le_refl i)))
 
 -- ## By number and place
 
@@ -190,8 +190,8 @@ refused_7_sound s lent i q = (
 
 refused_7_complete : (s : List ℕ) (lent i : ℕ) → 3 * rows s ≤ lent → GuestWindowFails s i → says (analysis s lent) ≡ refuses 7 (i + 1)
 refused_7_complete s lent i h p =
-    let missing = WA-missing s p.r p.e p.g i p.reached p.no_window in
-    ap says (reached-refused s p.r p.e p.g i p.reached lent _ h (guest_7 s i missing))
+    let missing = WA_missing s p.r p.e p.g i p.reached p.no_window in
+    ap says (reached_refused s p.r p.e p.g i p.reached lent _ h (guest_7 s i missing))
 
 pub refused_7_exactly : (s : List ℕ) (lent i : ℕ)
     → (says (analysis s lent) ≡ refuses 7 (i + 1)) ↔ ((3 * rows s ≤ lent) × GuestWindowFails s i)
@@ -224,9 +224,9 @@ refused_19_sound s lent i q = (
 
 refused_19_complete : (s : List ℕ) (lent i : ℕ) → 3 * rows s ≤ lent → HypertaskWindowFails s i → says (analysis s lent) ≡ refuses 19 (i + 1)
 refused_19_complete s lent i h p =
-    let there = WA-there s p.r p.e p.g i p.reached p.wa p.guest_begins p.wa_within in
-    let missing = WE-missing s p.r p.e p.g i p.reached p.no_window in
-    ap says (reached-refused s p.r p.e p.g i p.reached lent _ h (guest_19 s i p.wa there missing))
+    let there = WA_there s p.r p.e p.g i p.reached p.wa p.guest_begins p.wa_within in
+    let missing = WE_missing s p.r p.e p.g i p.reached p.no_window in
+    ap says (reached_refused s p.r p.e p.g i p.reached lent _ h (guest_19 s i p.wa there missing))
 
 pub refused_19_exactly : (s : List ℕ) (lent i : ℕ)
     → (says (analysis s lent) ≡ refuses 19 (i + 1)) ↔ ((3 * rows s ≤ lent) × HypertaskWindowFails s i)

@@ -115,15 +115,15 @@ passed state mask signal early room h =
     go false false p false q o e = let z : ◌≡◌ {A = ℕ} 0 1 = cc in absurd (omega arith)
 
 -- a record read is the tick it was made of
-record-read : (mask signal early : ℕ) → mask < 2 ^ 32
+record_read : (mask signal early : ℕ) → mask < 2 ^ 32
     → tick_at (tick_record mask signal early) 0 ≡ record { mask = mask; signal = signal; early = eqb early 1 }
-record-read mask signal early h = rw (number_front mask (signal ∷ early ∷ 0 ∷ 0 ∷ []) h)
+record_read mask signal early h = rw (number_front mask (signal ∷ early ∷ 0 ∷ 0 ∷ []) h)
 
 module _
     (state : List ℕ) (mask signal early : ℕ) (lent : List ℕ)
     (taken-one : step_refusal state mask signal early (length lent) ≡ none) (small : mask < 2 ^ 32) where
   same_step : step_in state mask signal early ≡ step_by (machine_in state) (tick_at (tick_record mask signal early) 0)
-  same_step = ap (step_by (machine_in state)) (sym (record-read mask signal early small))
+  same_step = ap (step_by (machine_in state)) (sym (record_read mask signal early small))
 
   pub step_is_ticks : LeavesSame state mask signal early lent
   unfolding ticks_taken machine_after answer_to flat

@@ -156,24 +156,24 @@ chosen_runs rows i h = go (first begun rows) refl (first waiting rows) refl (fir
     Runs : Type 0
     Runs = (i < length rows) × ((is_hyper (get_or rows i no_row).stage || has_budget (get_or rows i no_row).c (get_or rows i no_row).stage) ≡ true)
 
-    begun-hyper : (k : ℕ) (s : Stage) → has_begun k s ≡ true → is_hyper s ≡ true
-    begun-hyper k Stage.Never q = q
-    begun-hyper k (Stage.Guest a u) q = q
-    begun-hyper k (Stage.Hyper a l) q = refl
-    begun-hyper k (Stage.Closed a) q = q
+    begun_hyper : (k : ℕ) (s : Stage) → has_begun k s ≡ true → is_hyper s ≡ true
+    begun_hyper k Stage.Never q = q
+    begun_hyper k (Stage.Guest a u) q = q
+    begun_hyper k (Stage.Hyper a l) q = refl
+    begun_hyper k (Stage.Closed a) q = q
 
-    budget-runs : (c : ℕ) (s : Stage) → has_budget c s ≡ true → (is_hyper s || has_budget c s) ≡ true
-    budget-runs c Stage.Never q = q
-    budget-runs c (Stage.Guest a u) q = q
-    budget-runs c (Stage.Hyper a l) q = refl
-    budget-runs c (Stage.Closed a) q = q
+    budget_runs : (c : ℕ) (s : Stage) → has_budget c s ≡ true → (is_hyper s || has_budget c s) ≡ true
+    budget_runs c Stage.Never q = q
+    budget_runs c (Stage.Guest a u) q = q
+    budget_runs c (Stage.Hyper a l) q = refl
+    budget_runs c (Stage.Closed a) q = q
 
     go : (x : Found) → first begun rows ≡ x → (y : Found) → first waiting rows ≡ y → (z : Found) → first ready rows ≡ z
         → or_else x (or_else y z) ≡ at i → Runs
     go (at j) e y f z g q =
         let t = found_at begun rows j e in
         let same : j ≡ i = cc in
-        rw (← same) (t.0, rw (begun-hyper (get_or rows j no_row).k (get_or rows j no_row).stage t.1))
+        rw (← same) (t.0, rw (begun_hyper (get_or rows j no_row).k (get_or rows j no_row).stage t.1))
     go none e (at j) f z g q =
         let t = found_at waiting rows j f in
         let same : j ≡ i = cc in
@@ -181,5 +181,5 @@ chosen_runs rows i h = go (first begun rows) refl (first waiting rows) refl (fir
     go none e none f (at j) g q =
         let t = found_at ready rows j g in
         let same : j ≡ i = cc in
-        rw (← same) (t.0, budget-runs (get_or rows j no_row).c (get_or rows j no_row).stage t.1)
+        rw (← same) (t.0, budget_runs (get_or rows j no_row).c (get_or rows j no_row).stage t.1)
     go none e none f none g q = let z : ◌≡◌ {A = ℕ} 0 1 = cc in absurd (omega arith)

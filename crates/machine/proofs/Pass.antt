@@ -100,13 +100,13 @@ module _ (clock count mask : ℕ) where
   begun_as false x i h = refl
 
   -- as long as no task comes too soon
-  seen-row : (b : Bool) (l : List Row) (r : Row) → length l ≤ 32 → ltb (length l) count ≡ true
+  seen_row : (b : Bool) (l : List Row) (r : Row) → length l ≤ 32 → ltb (length l) count ≡ true
       → second_begun r.k r.stage (seen_in clock count mask b l) ≡ false
       → ltb (place (first (too_soon mask clock) l)) 32 ≡ false → too_soon mask clock (length l) r ≡ false
       → arrival_on clock mask (length l) r (stage_seen clock (length l) r r.stage (unmoved (seen_in clock count mask b l)))
       ≡ seen_in clock count mask (moves clock count mask (length l) r) (l ++ (r ∷ []))
   unfolding seen_in stage_seen arrival_seen
-  seen-row b l r short lt one free late = go (in_mask mask (length l)) refl (is_hyper r.stage) refl
+  seen_row b l r short lt one free late = go (in_mask mask (length l)) refl (is_hyper r.stage) refl
     where
       budget : Bool
       budget = has_budget r.c (enforced clock r.k r.e r.stage)
@@ -159,15 +159,15 @@ module _ (clock count mask : ℕ) where
             begun_as (has_begun r.k r.stage) (place (first begun l)) (length l) one,
           )
 
-  moved-is : (b : Bool) (l : List Row) (w : Seen) → w ≡ seen_in clock count mask b l → w.moved ≡ b
+  moved_is : (b : Bool) (l : List Row) (w : Seen) → w ≡ seen_in clock count mask b l → w.moved ≡ b
   unfolding seen_in
-  moved-is b l w e = ap (λ v. v.moved) e
+  moved_is b l w e = ap (λ v. v.moved) e
 
   -- a blank row past the last shows nothing
-  seen-blank : (b : Bool) (l : List Row) (r : Row) → length l ≤ 32 → ltb (length l) count ≡ false → is_blank r ≡ true
+  seen_blank : (b : Bool) (l : List Row) (r : Row) → length l ≤ 32 → ltb (length l) count ≡ false → is_blank r ≡ true
       → seen_in clock count mask b l ≡ seen_in clock count mask b (l ++ (r ∷ []))
   unfolding seen_in
-  seen-blank b l r short past k =
+  seen_blank b l r short past k =
       rw (
         place_more begun l r short,
         place_more (will_wait clock) l r short,
@@ -311,7 +311,7 @@ module _ (m : Machine) (mask i : ℕ) (w : Seen) (next : List Row) (most : i < 3
     pass_blank e =
         let still : row ≡ passed_row m.clock m.count mask i row = rw (outside, blank_never row e) in
         let short : length (take i m.rows) ≤ 32 = omega (arith, seen_length) in
-        let more = seen-blank m.clock m.count mask w.moved (take i m.rows) row short (rw seen_length outside) e in
+        let more = seen_blank m.clock m.count mask w.moved (take i m.rows) row short (rw seen_length outside) e in
         record {
           long = p.long;
           few = p.few;
@@ -371,11 +371,11 @@ module _ (m : Machine) (mask i : ℕ) (w : Seen) (next : List Row) (most : i < 3
         let x : ℕ = place (first (too_soon mask m.clock) l) in
         let none_yet : ltb x 32 ≡ false = le-ltb x 32 (rw p.soon_place at s.0) in
         let late : too_soon mask m.clock (length l) row ≡ false = rw seen_length s.1 in
-        let q = rw seen_length at (seen-row m.clock m.count mask w.moved l row short in_table one none_yet late) in
+        let q = rw seen_length at (seen_row m.clock m.count mask w.moved l row short in_table one none_yet late) in
         row_is ∙ ap (λ u. arrival_on m.clock mask i row (stage_seen m.clock i row row.stage (unmoved u))) was ∙ q ∙ rw one_more
 
     moved_here : 32 ≤ w'.soon → w'.moved ≡ moves m.clock m.count mask i row
-    moved_here h = moved-is m.clock m.count mask (moves m.clock m.count mask i row) (take (i + 1) m.rows) w' (seen_on h)
+    moved_here h = moved_is m.clock m.count mask (moves m.clock m.count mask i row) (take (i + 1) m.rows) w' (seen_on h)
 
     pass_on : (next' : List Row) → drop (i + 1) next' ≡ drop (i + 1) m.rows
         → (32 ≤ w'.soon → next' ≡ map_from (passed_row m.clock m.count mask) 0 (take (i + 1) m.rows) ++ drop (i + 1) m.rows)

@@ -67,39 +67,39 @@ judged_as m mask (refused refusal) = Judged.Refused refusal
 judged_as m mask accepted = Judged.Accepted (place (chosen (turned m.clock mask m.rows)))
 
 module _ (m : Machine) (mask : ℕ) (w : Seen) (next : List Row) (p : Passing m mask 32 w next) where
-  all-rows : take 32 m.rows ≡ m.rows
-  all-rows = take_all 32 m.rows (omega (arith, p.long))
+  all_rows : take 32 m.rows ≡ m.rows
+  all_rows = take_all 32 m.rows (omega (arith, p.long))
 
   soon_place : w.soon ≡ place (soon_in m mask)
-  soon_place = rw all-rows at p.soon_place
+  soon_place = rw all_rows at p.soon_place
 
   -- where no task came too soon
-  all-free : soon_in m mask ≡ none → Free m mask 32 w next
-  all-free h = p.free (let z : w.soon ≡ 32 = soon_place ∙ ap place h in omega arith)
+  all_free : soon_in m mask ≡ none → Free m mask 32 w next
+  all_free h = p.free (let z : w.soon ≡ 32 = soon_place ∙ ap place h in omega arith)
 
   seen_all : soon_in m mask ≡ none → w ≡ seen_in m.clock m.count mask w.moved m.rows
-  seen_all h = rw all-rows at (all-free h).seen
+  seen_all h = rw all_rows at (all_free h).seen
 
-  unfit-test : (a b : Bool) → (not a || not b) ≡ not (a && b)
-  unfit-test true b = refl
-  unfit-test false b = refl
+  unfit_test : (a b : Bool) → (not a || not b) ≡ not (a && b)
+  unfit_test true b = refl
+  unfit_test false b = refl
 
-  unfit-law : (ltb m.count 1 || ltb (2 ^ 40) m.clock) ≡ not (well_formed m)
-  unfit-law =
+  unfit_law : (ltb m.count 1 || ltb (2 ^ 40) m.clock) ≡ not (well_formed m)
+  unfit_law =
       rw (
         well_law m,
-        rw all-rows at p.fit,
-        le-leb (how_many begun_row m.rows) 1 (rw all-rows at p.one),
+        rw all_rows at p.fit,
+        le-leb (how_many begun_row m.rows) 1 (rw all_rows at p.one),
         le-leb m.count 32 p.few,
         and_true (leb 1 m.count),
         and_true (leb m.clock (2 ^ 40)),
         not_leb 1 m.count,
         not_leb m.clock (2 ^ 40),
-      ) (unfit-test (leb 1 m.count) (leb m.clock (2 ^ 40)))
+      ) (unfit_test (leb 1 m.count) (leb m.clock (2 ^ 40)))
 
-  hyper-place : soon_in m mask ≡ none → w.hyper ≡ place (hyper_in m mask)
+  hyper_place : soon_in m mask ≡ none → w.hyper ≡ place (hyper_in m mask)
   unfolding seen_in
-  hyper-place h = ap (λ v. v.hyper) (seen_all h)
+  hyper_place h = ap (λ v. v.hyper) (seen_all h)
 
   -- a check that refuses, and one that lets the tick on
   refuses : (refusal : ℕ → Refusal) (f : Found) (x i : ℕ) (j : Judged) → ((k : ℕ) → f ≡ at k → k < 32) → x ≡ place f → f ≡ at i
@@ -138,29 +138,29 @@ module _ (m : Machine) (mask : ℕ) (w : Seen) (next : List Row) (p : Passing m 
       on : well_formed m ≡ true → eqb m.clock (2 ^ 40) ≡ false → (f : Found) → past_in m mask ≡ f → (g : Found) → soon_in m mask ≡ g
           → (h : Found) → hyper_in m mask ≡ h → judged_by m.clock m.count mask w ≡ judged_as m mask (verdict m mask)
       on e t (at i) q g r h s =
-          rw (unfit-law, e, t, q)
+          rw (unfit_law, e, t, q)
           (refuses Refusal.NoSuchTask (past_in m mask) past i at_soon (below (past_last mask m.count) m.rows p.long) (past_place e) q)
       on e t none q (at i) r h s =
-          rw (unfit-law, e, t, q, r)
+          rw (unfit_law, e, t, q, r)
           (lets Refusal.NoSuchTask (past_in m mask) past at_soon (past_place e) q
           ∙ refuses Refusal.ArrivalTooSoon (soon_in m mask) w.soon i at_hyper (below (too_soon mask m.clock) m.rows p.long) soon_place r)
       on e t none q none r (at i) s =
-          rw (unfit-law, e, t, q, r, s)
+          rw (unfit_law, e, t, q, r, s)
           (lets Refusal.NoSuchTask (past_in m mask) past at_soon (past_place e) q
           ∙ lets Refusal.ArrivalTooSoon (soon_in m mask) w.soon at_hyper soon_place r
-          ∙ refuses Refusal.ArrivalWhileHyper (hyper_in m mask) w.hyper i yes (below (while_hyper mask) m.rows p.long) (hyper-place r) s)
+          ∙ refuses Refusal.ArrivalWhileHyper (hyper_in m mask) w.hyper i yes (below (while_hyper mask) m.rows p.long) (hyper_place r) s)
       on e t none q none r none s =
           let ok : verdict m mask ≡ accepted = rw (e, t, q, r, s) in
-          rw (unfit-law, e, t, q, r, s)
+          rw (unfit_law, e, t, q, r, s)
           (lets Refusal.NoSuchTask (past_in m mask) past at_soon (past_place e) q
           ∙ lets Refusal.ArrivalTooSoon (soon_in m mask) w.soon at_hyper soon_place r
-          ∙ lets Refusal.ArrivalWhileHyper (hyper_in m mask) w.hyper yes (hyper-place r) s
+          ∙ lets Refusal.ArrivalWhileHyper (hyper_in m mask) w.hyper yes (hyper_place r) s
           ∙ ap Judged.Accepted (runs ok))
 
       go : (x : Bool) → well_formed m ≡ x → (y : Bool) → eqb m.clock (2 ^ 40) ≡ y
           → judged_by m.clock m.count mask w ≡ judged_as m mask (verdict m mask)
-      go false e y f = rw (unfit-law, e)
-      go true e true f = rw (unfit-law, e, f)
+      go false e y f = rw (unfit_law, e)
+      go true e true f = rw (unfit_law, e, f)
       go true e false f = on e f (past_in m mask) refl (soon_in m mask) refl (hyper_in m mask) refl
 
   -- what the step learns of the judgement
@@ -203,7 +203,7 @@ module _ (m : Machine) (mask : ℕ) (w : Seen) (next : List Row) (p : Passing m 
     pub turned_rows : next ≡ turned m.clock mask m.rows
     turned_rows =
         let end = drop_of_length-le m.rows {i = 32} (omega (arith, p.long)) in
-        (all-free (passed m mask ok).apart).so_far ∙ rw (all-rows, end) (append-nil (map_from (passed_row m.clock m.count mask) 0 m.rows))
+        (all_free (passed m mask ok).apart).so_far ∙ rw (all_rows, end) (append-nil (map_from (passed_row m.clock m.count mask) 0 m.rows))
         ∙ passed_rows m.clock m.count mask 0 m.rows (taking m mask ok) ∙ sym (turned_law m.clock mask m.rows)
 
     found_below : (j : ℕ) → chosen (turned m.clock mask m.rows) ≡ at j → j < 32

@@ -121,8 +121,8 @@ module _ (m : Machine) (long : length m.rows ≡ 32) (few : m.count ≤ 32) (bla
       go true e = ltb-true i m.count e
       go false e = absurd (true≢false (sym (rw (blank i (ltb-false i m.count e) (omega arith)) at b)))
 
-  one-exactly : (how_many begun_row m.rows ≤ 1) ↔ ((i j : ℕ) → i < m.count → j < m.count → Begun (row_at m i) → Begun (row_at m j) → i ≡ j)
-  one-exactly =
+  one_exactly : (how_many begun_row m.rows ≤ 1) ↔ ((i j : ℕ) → i < m.count → j < m.count → Begun (row_at m i) → Begun (row_at m j) → i ≡ j)
+  one_exactly =
       let one = at_most_one begun_row m.rows refl in (
         λ h i j lo hi a b. one.0 h i j (omega arith) (omega arith) ((test i).1 a) ((test j).1 b),
         λ f. one.1 (λ i j lo hi a b. f i j (in_table i lo a) (in_table j hi b) ((test i).0 a) ((test j).0 b)),
@@ -142,7 +142,7 @@ well_formed_exactly m long = (λ h. says (formed m h), λ c. well m (fits c))
           fields = λ i h. (fields_exactly (row_at m i)).0 (row i h).0;
           time = f.time;
           stages = λ i h. (stage_exactly m.clock (row_at m i) (row_at m i).stage).0 (row i h).1;
-          begun_once = (one-exactly m long f.most past).0 f.one;
+          begun_once = (one_exactly m long f.most past).0 f.one;
           blank = past;
         }
       where
@@ -165,7 +165,7 @@ well_formed_exactly m long = (λ h. says (formed m h), λ c. well m (fits c))
           most = c.few;
           time = c.time;
           each = placed_none m.clock m.count m.rows placed;
-          one = (one-exactly m long c.few c.blank).1 c.begun_once;
+          one = (one_exactly m long c.few c.blank).1 c.begun_once;
         }
       where
         row : (i : ℕ) → i < m.count → row_fits m.clock (row_at m i) ≡ true

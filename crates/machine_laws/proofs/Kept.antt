@@ -140,13 +140,13 @@ one_stays rows i signal early c one = go (first begun rows) refl (first waiting 
 
 -- the rows after steps 1 and 2
 module _ (m : Machine) (mask : ℕ) (long : length m.rows ≡ 32) (ok : Passed m mask) where
-  next-length : length (turned m.clock mask m.rows) ≡ 32
-  next-length = turned_length m.clock mask m.rows ∙ long
+  next_length : length (turned m.clock mask m.rows) ≡ 32
+  next_length = turned_length m.clock mask m.rows ∙ long
 
-  next-placed : (k : ℕ) → k < length (turned m.clock mask m.rows)
+  next_placed : (k : ℕ) → k < length (turned m.clock mask m.rows)
       → Placed (m.clock + 1) m.count k (get_or (turned m.clock mask m.rows) k no_row)
-  next-placed k lt =
-      let lo : k < length m.rows = omega (arith, next-length) in
+  next_placed k lt =
+      let lo : k < length m.rows = omega (arith, next_length) in
       let was = none_placed m.clock m.count m.rows (formed m ok.good).each k lo in
       let past = rw (zero-add k) at (none_at (past_last mask m.count) m.rows 0 k ok.known lo) in
       rw (turned_law m.clock mask m.rows, map_at (turned_row m.clock mask) m.rows 0 k lo, zero-add k)
@@ -170,9 +170,9 @@ module _ (m : Machine) (mask : ℕ) (long : length m.rows ≡ 32) (ok : Passed m
       rw (turned_law m.clock mask m.rows) (omega (arith, (formed m ok.good).one))
 
   -- the next machine, whoever ran
-  after-formed : (rows : List Row) → ((k : ℕ) → k < length rows → Placed (m.clock + 1) m.count k (get_or rows k no_row))
+  after_formed : (rows : List Row) → ((k : ℕ) → k < length rows → Placed (m.clock + 1) m.count k (get_or rows k no_row))
       → how_many begun_row rows ≤ 1 → well_formed (record { rows = rows; count = m.count; clock = m.clock + 1 }) ≡ true
-  after-formed rows each one =
+  after_formed rows each one =
       let f = formed m ok.good in
       well (record { rows = rows; count = m.count; clock = m.clock + 1 })
       (record {
@@ -183,21 +183,21 @@ module _ (m : Machine) (mask : ℕ) (long : length m.rows ≡ 32) (ok : Passed m
         one = one;
       })
 
-  set-placed : (i : ℕ) (q : Row) → i < length (turned m.clock mask m.rows) → Placed (m.clock + 1) m.count i q
+  set_placed : (i : ℕ) (q : Row) → i < length (turned m.clock mask m.rows) → Placed (m.clock + 1) m.count i q
       → (k : ℕ) → k < length (set (turned m.clock mask m.rows) i q)
       → Placed (m.clock + 1) m.count k (get_or (set (turned m.clock mask m.rows) i q) k no_row)
-  set-placed i q lt p k h = go (eqb k i) refl (rw length-set at h)
+  set_placed i q lt p k h = go (eqb k i) refl (rw length-set at h)
     where
       go : (x : Bool) → eqb k i ≡ x → k < length (turned m.clock mask m.rows)
           → Placed (m.clock + 1) m.count k (get_or (set (turned m.clock mask m.rows) i q) k no_row)
       go true e lo =
           let same : k ≡ i = eqb-true k i e in
           rw (same, get_or-set_same (turned m.clock mask m.rows) i q no_row lt) p
-      go false e lo = rw (get_or-set_other (turned m.clock mask m.rows) i k q no_row (eqb-false k i e)) (next-placed k lo)
+      go false e lo = rw (get_or-set_other (turned m.clock mask m.rows) i k q no_row (eqb-false k i e)) (next_placed k lo)
 
-  taken-formed : (signal : ℕ) (early : Bool) → well_formed (taken m mask signal early).machine ≡ true
+  taken_formed : (signal : ℕ) (early : Bool) → well_formed (taken m mask signal early).machine ≡ true
   unfolding taken
-  taken-formed signal early = go (chosen (turned m.clock mask m.rows)) refl
+  taken_formed signal early = go (chosen (turned m.clock mask m.rows)) refl
     where
       go : (f : Found) → chosen (turned m.clock mask m.rows) ≡ f
           → well_formed (ran_on m.count m.clock (turned m.clock mask m.rows) signal early f).machine ≡ true
@@ -206,9 +206,9 @@ module _ (m : Machine) (mask : ℕ) (long : length m.rows ≡ 32) (ok : Passed m
           let r : Row = get_or rows i no_row in
           let q : Row = with_stage r (ran_from (i + 1) signal early r.c r.stage).stage in
           let t = chosen_runs rows i e in
-          let p = runs_placed (m.clock + 1) m.count (i + 1) signal i early r t.1 (next-placed i t.0) in
-          after-formed (set rows i q) (set-placed i q t.0 p) (one_stays rows i signal early e next_one)
-      go none e = after-formed (turned m.clock mask m.rows) next-placed next_one
+          let p = runs_placed (m.clock + 1) m.count (i + 1) signal i early r t.1 (next_placed i t.0) in
+          after_formed (set rows i q) (set_placed i q t.0 p) (one_stays rows i signal early e next_one)
+      go none e = after_formed (turned m.clock mask m.rows) next_placed next_one
 
 -- a tick of a well formed machine gives a well formed machine
 pub step_formed : (m : Machine) (mask signal : ℕ) (early : Bool) → length m.rows ≡ 32 → well_formed m ≡ true
@@ -218,7 +218,7 @@ step_formed m mask signal early long h = go (verdict m mask) refl
   where
     go : (v : Verdict) → verdict m mask ≡ v → well_formed (step_by m mask signal early v).machine ≡ true
     go (refused x) e = h
-    go accepted e = taken-formed m mask long (passed m mask e) signal early
+    go accepted e = taken_formed m mask long (passed m mask e) signal early
 
 -- and keeps the number of places
 pub step_length : (m : Machine) (mask signal : ℕ) (early : Bool) → length (step_of m mask signal early).machine.rows ≡ length m.rows

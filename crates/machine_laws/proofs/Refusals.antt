@@ -72,43 +72,43 @@ module _ (rows : List Row) (long : length rows ≡ 32) (mask : ℕ) (q : ℕ →
   holds : (i : ℕ) → Asked mask Q i → asked mask q i (get_or rows i no_row) ≡ true
   holds i h = rw (eq-eqb (mask / 2 ^ i % 2) 1 h.1, (test i h.0).1 h.2)
 
-  none-says : first (asked mask q) rows ≡ none → (i : ℕ) → Asked mask Q i → ⊥
-  none-says e i h =
+  none_says : first (asked mask q) rows ≡ none → (i : ℕ) → Asked mask Q i → ⊥
+  none_says e i h =
       let fails = rw (zero-add i) at (none_at (asked mask q) rows 0 i e (omega arith)) in
       true≢false (sym (holds i h) ∙ fails)
 
-  none-holds : ((i : ℕ) → Asked mask Q i → ⊥) → first (asked mask q) rows ≡ none
-  none-holds f = all_none (asked mask q) rows 0 (λ i lt. rw (zero-add i) (go i (omega arith) (asked mask q i (get_or rows i no_row)) refl))
+  none_holds : ((i : ℕ) → Asked mask Q i → ⊥) → first (asked mask q) rows ≡ none
+  none_holds f = all_none (asked mask q) rows 0 (λ i lt. rw (zero-add i) (go i (omega arith) (asked mask q i (get_or rows i no_row)) refl))
     where
       go : (i : ℕ) → i < 32 → (x : Bool) → asked mask q i (get_or rows i no_row) ≡ x → x ≡ false
       go i lt true e = absurd (f i (says i lt e))
       go i lt false e = refl
 
-  at-says : (i : ℕ) → first (asked mask q) rows ≡ at i → Lowest (Asked mask Q) i
-  at-says i e =
+  at_says : (i : ℕ) → first (asked mask q) rows ≡ at i → Lowest (Asked mask Q) i
+  at_says i e =
       let t = found_at (asked mask q) rows i e in
       record {
         holds = says i (omega arith) t.1;
         lowest = λ j lt h. true≢false (sym (holds j h) ∙ (rw (zero-add j) at (first_below (asked mask q) rows 0 i j e (omega arith))));
       }
 
-  at-holds : (i : ℕ) → Lowest (Asked mask Q) i → (f : Found) → first (asked mask q) rows ≡ f → f ≡ at i
-  at-holds i l (at k) e = let z : k ≡ i = lowest_same (Asked mask Q) k i (at-says k e) l in cc
-  at-holds i l none e = absurd (none-says e i l.holds)
+  at_holds : (i : ℕ) → Lowest (Asked mask Q) i → (f : Found) → first (asked mask q) rows ≡ f → f ≡ at i
+  at_holds i l (at k) e = let z : k ≡ i = lowest_same (Asked mask Q) k i (at_says k e) l in cc
+  at_holds i l none e = absurd (none_says e i l.holds)
 
   finds : Finds (first (asked mask q) rows) (Asked mask Q)
-  finds = record { nowhere = (none-says, none-holds); lowest = λ i. (at-says i, λ l. at-holds i l (first (asked mask q) rows) refl) }
+  finds = record { nowhere = (none_says, none_holds); lowest = λ i. (at_says i, λ l. at_holds i l (first (asked mask q) rows) refl) }
 
 -- a task's last arrival, if there is one, is less than T ago
 module _ (clock t : ℕ) where
-  ago-exactly : (a : ℕ) → (ltb (age clock a) t ≡ true) ↔ ((b : ℕ) × (a ≡ b) × (age clock b < t))
-  ago-exactly a = (λ h. (a, refl, ltb-true (age clock a) t h), λ w. rw w.1 (lt-ltb (age clock w.0) t w.2))
+  ago_exactly : (a : ℕ) → (ltb (age clock a) t ≡ true) ↔ ((b : ℕ) × (a ≡ b) × (age clock b < t))
+  ago_exactly a = (λ h. (a, refl, ltb-true (age clock a) t h), λ w. rw w.1 (lt-ltb (age clock w.0) t w.2))
 
-  younger-exactly : (s : Stage) → (younger_than clock t s ≡ true) ↔ ((a : ℕ) × CameAt a s × (age clock a < t))
-  younger-exactly Stage.Never = (λ h. absurd (true≢false (sym h)), λ w. absurd w.1)
-  younger-exactly (Stage.Guest a u) = ago-exactly a
-  younger-exactly (Stage.Hyper a l) = ago-exactly a
-  younger-exactly (Stage.Closed a) = ago-exactly a
+  younger_exactly : (s : Stage) → (younger_than clock t s ≡ true) ↔ ((a : ℕ) × CameAt a s × (age clock a < t))
+  younger_exactly Stage.Never = (λ h. absurd (true≢false (sym h)), λ w. absurd w.1)
+  younger_exactly (Stage.Guest a u) = ago_exactly a
+  younger_exactly (Stage.Hyper a l) = ago_exactly a
+  younger_exactly (Stage.Closed a) = ago_exactly a
 
 -- a task is Hyper
 hyper_exactly : (s : Stage) → (is_hyper s ≡ true) ↔ ((a : ℕ) × (left : ℕ) × (s ≡ Stage.Hyper a left))
@@ -166,26 +166,26 @@ module _ (m : Machine) (mask : ℕ) (long : length m.rows ≡ 32) where
   soon c =
       finds m.rows long mask _ _
       (λ i lt.
-      let young = younger-exactly m.clock (row_at m i).t (row_at m i).stage in (
+      let young = younger_exactly m.clock (row_at m i).t (row_at m i).stage in (
         λ h. let w = young.0 h in let s = age_sum m.clock w.0 (came c i w.0 lt w.1) in (w.0, w.1, omega arith),
         λ w. let s = age_sum m.clock w.0 (came c i w.0 lt w.1) in young.1 (w.0, w.1, omega arith),
       ))
 
   -- 10 to 12 don't apply
-  known-exactly : (past_in m mask ≡ none) ↔ Known m mask
-  known-exactly = (
+  known_exactly : (past_in m mask ≡ none) ↔ Known m mask
+  known_exactly = (
     λ e i lt a. lt_of_not-le (λ h. past.nowhere.0 e i (lt, a, h)),
     λ k. past.nowhere.1 (λ i h. omega (arith, k i h.0 h.1)),
   )
 
-  spaced-exactly : Clauses m → (soon_in m mask ≡ none) ↔ Spaced m mask
-  spaced-exactly c = (
+  spaced_exactly : Clauses m → (soon_in m mask ≡ none) ↔ Spaced m mask
+  spaced_exactly c = (
     λ e i a lt b h. omega (arith, lt_of_not-le (λ q. (soon c).nowhere.0 e i (lt, b, (a, h, q)))),
     λ k. (soon c).nowhere.1 (λ i h. omega (arith, k i h.2.0 h.0 h.1 h.2.1)),
   )
 
-  free-exactly : (hyper_in m mask ≡ none) ↔ Free m mask
-  free-exactly = (
+  free_exactly : (hyper_in m mask ≡ none) ↔ Free m mask
+  free_exactly = (
     λ e i a left lt b h. hyper.nowhere.0 e i (lt, b, (a, left, h)),
     λ k. hyper.nowhere.1 (λ i h. k i h.2.0 h.2.1 h.0 h.1 h.2.2),
   )
@@ -193,13 +193,13 @@ module _ (m : Machine) (mask : ℕ) (long : length m.rows ≡ 32) where
   is_well_formed : (well_formed m ≡ true) ↔ Clauses m
   is_well_formed = well_formed_exactly m long
 
-  before-end : InTime m → eqb m.clock (2 ^ 40) ≡ false
-  before-end t = ne_eqb m.clock (2 ^ 40) (λ e. omega (arith, t.before_the_end))
+  before_end : InTime m → eqb m.clock (2 ^ 40) ≡ false
+  before_end t = ne_eqb m.clock (2 ^ 40) (λ e. omega (arith, t.before_the_end))
 
   -- checks go by number
-  verdict-says : Says m mask (verdict m mask)
+  verdict_says : Says m mask (verdict m mask)
   unfolding verdict
-  verdict-says = go (well_formed m) refl (eqb m.clock (2 ^ 40)) refl (past_in m mask) refl (soon_in m mask) refl (hyper_in m mask) refl
+  verdict_says = go (well_formed m) refl (eqb m.clock (2 ^ 40)) refl (past_in m mask) refl (soon_in m mask) refl (hyper_in m mask) refl
     where
       in_time : well_formed m ≡ true → eqb m.clock (2 ^ 40) ≡ false → InTime m
       in_time e t =
@@ -215,24 +215,24 @@ module _ (m : Machine) (mask : ℕ) (long : length m.rows ≡ 32) where
       go false e y t a p b s c h = λ k. true≢false (sym (is_well_formed.1 k) ∙ e)
       go true e true t a p b s c h = (is_well_formed.0 e, eqb-true m.clock (2 ^ 40) t)
       go true e false t (at i) p b s c h = (i, refl, (in_time e t, (past.lowest i).0 p))
-      go true e false t none p (at i) s c h = (i, refl, (in_time e t, known-exactly.0 p, ((soon (is_well_formed.0 e)).lowest i).0 s))
+      go true e false t none p (at i) s c h = (i, refl, (in_time e t, known_exactly.0 p, ((soon (is_well_formed.0 e)).lowest i).0 s))
       go true e false t none p none s (at i) h =
-          (i, refl, (in_time e t, known-exactly.0 p, (spaced-exactly (is_well_formed.0 e)).0 s, (hyper.lowest i).0 h))
+          (i, refl, (in_time e t, known_exactly.0 p, (spaced_exactly (is_well_formed.0 e)).0 s, (hyper.lowest i).0 h))
       go true e false t none p none s none h =
           record {
             in_time = in_time e t;
-            known = known-exactly.0 p;
-            spaced = (spaced-exactly (is_well_formed.0 e)).0 s;
-            free = free-exactly.0 h;
+            known = known_exactly.0 p;
+            spaced = (spaced_exactly (is_well_formed.0 e)).0 s;
+            free = free_exactly.0 h;
           }
 
   pub accepted_exactly : (verdict m mask ≡ accepted) ↔ NoneApplies m mask
   unfolding verdict
   accepted_exactly = (
-    λ e. rw e at verdict-says,
+    λ e. rw e at verdict_says,
     λ n.
         let c = n.in_time.is_well_formed in
-        rw (is_well_formed.1 c, before-end n.in_time, known-exactly.1 n.known, (spaced-exactly c).1 n.spaced, free-exactly.1 n.free),
+        rw (is_well_formed.1 c, before_end n.in_time, known_exactly.1 n.known, (spaced_exactly c).1 n.spaced, free_exactly.1 n.free),
   )
 
   pub taken_exactly : (signal : ℕ) (early : Bool) → ((said : Taken) × ((step_of m mask signal early).answer ≡ Answer.Taken said)) ↔ NoneApplies m mask
@@ -251,7 +251,7 @@ module _ (m : Machine) (mask : ℕ) (long : length m.rows ≡ 32) where
   -- 8 to 12, each where those before it don't apply
   pub eight_exactly : (verdict m mask ≡ refused (Refusal.NotWellFormed 0)) ↔ Eight m
   unfolding verdict
-  eight_exactly = (λ e. rw e at verdict-says, λ h. go (well_formed m) refl h)
+  eight_exactly = (λ e. rw e at verdict_says, λ h. go (well_formed m) refl h)
     where
       go : (x : Bool) → well_formed m ≡ x → Eight m → verdict m mask ≡ refused (Refusal.NotWellFormed 0)
       go true e h = absurd (h (is_well_formed.0 e))
@@ -259,38 +259,38 @@ module _ (m : Machine) (mask : ℕ) (long : length m.rows ≡ 32) where
 
   pub nine_exactly : (verdict m mask ≡ refused (Refusal.ClockAtEnd 0)) ↔ Nine m
   unfolding verdict
-  nine_exactly = (λ e. rw e at verdict-says, λ h. rw (is_well_formed.1 h.0, eq-eqb m.clock (2 ^ 40) h.1))
+  nine_exactly = (λ e. rw e at verdict_says, λ h. rw (is_well_formed.1 h.0, eq-eqb m.clock (2 ^ 40) h.1))
 
   pub ten_exactly : (i : ℕ) → (verdict m mask ≡ refused (Refusal.NoSuchTask (i + 1))) ↔ Ten m mask i
   unfolding verdict
   ten_exactly i = (
     λ e.
-        let t : Says m mask (refused (Refusal.NoSuchTask (i + 1))) = rw e at verdict-says in
+        let t : Says m mask (refused (Refusal.NoSuchTask (i + 1))) = rw e at verdict_says in
         let z : t.0 ≡ i = omega arith in
         rw z at t.2,
-    λ h. rw (is_well_formed.1 h.0.is_well_formed, before-end h.0, (past.lowest i).1 h.1),
+    λ h. rw (is_well_formed.1 h.0.is_well_formed, before_end h.0, (past.lowest i).1 h.1),
   )
 
   pub eleven_exactly : (i : ℕ) → (verdict m mask ≡ refused (Refusal.ArrivalTooSoon (i + 1))) ↔ Eleven m mask i
   unfolding verdict
   eleven_exactly i = (
     λ e.
-        let t : Says m mask (refused (Refusal.ArrivalTooSoon (i + 1))) = rw e at verdict-says in
+        let t : Says m mask (refused (Refusal.ArrivalTooSoon (i + 1))) = rw e at verdict_says in
         let z : t.0 ≡ i = omega arith in
         rw z at t.2,
     λ h.
         let c = h.0.is_well_formed in
-        rw (is_well_formed.1 c, before-end h.0, known-exactly.1 h.1, ((soon c).lowest i).1 h.2),
+        rw (is_well_formed.1 c, before_end h.0, known_exactly.1 h.1, ((soon c).lowest i).1 h.2),
   )
 
   pub twelve_exactly : (i : ℕ) → (verdict m mask ≡ refused (Refusal.ArrivalWhileHyper (i + 1))) ↔ Twelve m mask i
   unfolding verdict
   twelve_exactly i = (
     λ e.
-        let t : Says m mask (refused (Refusal.ArrivalWhileHyper (i + 1))) = rw e at verdict-says in
+        let t : Says m mask (refused (Refusal.ArrivalWhileHyper (i + 1))) = rw e at verdict_says in
         let z : t.0 ≡ i = omega arith in
         rw z at t.2,
     λ h.
         let c = h.0.is_well_formed in
-        rw (is_well_formed.1 c, before-end h.0, known-exactly.1 h.1, (spaced-exactly c).1 h.2, (hyper.lowest i).1 h.3),
+        rw (is_well_formed.1 c, before_end h.0, known_exactly.1 h.1, (spaced_exactly c).1 h.2, (hyper.lowest i).1 h.3),
   )

@@ -21,8 +21,8 @@ rows_of_determined file a b p q = p ∙ sym q
 pub script_of_determined : (file a b : List ℕ) → a ≡ part_of script_kind file → b ≡ part_of script_kind file → a ≡ b
 script_of_determined file a b p q = p ∙ sym q
 
-pub record-determined : (script : List ℕ) (i : ℕ) (a b : Recorded) → a ≡ record_of script i → b ≡ record_of script i → a ≡ b
-record-determined script i a b p q = p ∙ sym q
+pub record_determined : (script : List ℕ) (i : ℕ) (a b : Recorded) → a ≡ record_of script i → b ≡ record_of script i → a ≡ b
+record_determined script i a b p q = p ∙ sym q
 
 pub table_of_determined : (rows lent : List ℕ) (a b : Taken) (x y : List ℕ) → Takes rows lent a x → Takes rows lent b y → (a ≡ b) × (x ≡ y)
 table_of_determined rows lent a b x y p q = (p.answers ∙ sym q.answers, p.leaves ∙ sym q.leaves)

@@ -30,28 +30,28 @@ module _ (f : List ℕ) (bytes : AllBelow 256 f) (accepted : read_refusal f ≡ 
   checks : Passed f
   checks = passed f accepted
 
-  contents-fine : Listed f
-  contents-fine = listed f checks.count_right
+  contents_fine : Listed f
+  contents_fine = listed f checks.count_right
 
-  places-fine : (i : ℕ) → i < count f → InPlace f i
-  places-fine = in_place f checks.places
+  places_fine : (i : ℕ) → i < count f → InPlace f i
+  places_fine = in_place f checks.places
 
   pub meaning_file : file_of (sections_of f) ≡ f
-  meaning_file = file_again f contents-fine places-fine bytes
+  meaning_file = file_again f contents_fine places_fine bytes
 
   pub meaning_plan : Plan (sections_of f)
   unfolding asked
   meaning_plan =
       record {
-        some = omega (arith, contents-fine, sections_count f);
-        few = omega (arith, contents-fine, sections_count f);
+        some = omega (arith, contents_fine, sections_count f);
+        few = omega (arith, contents_fine, sections_count f);
         kinds = λ i h.
             let g : i < count f = omega (arith, sections_count f) in
             ap (λ (s : Section). wrong_kind i s.kind) (section_is f i g) ∙ no_entry f WrongKind checks.kinds i g;
         sizes = λ i h.
             let g : i < count f = omega (arith, sections_count f) in
             ap (λ (s : Section). wrong_size s.kind (length s.body)) (section_is f i g)
-            ∙ ap (wrong_size (entry_at f i).kind) (body_length f contents-fine places-fine i g)
+            ∙ ap (wrong_size (entry_at f i).kind) (body_length f contents_fine places_fine i g)
             ∙ no_entry f WrongSize checks.sizes i g;
         records = checks.records;
         short = omega (arith, ap length meaning_file, ltb-false 65536 (length f) (or_inv (ltb (length f) 4) (ltb 65536 (length f)) checks.length_right).1);

@@ -24,10 +24,10 @@ mark zero h = refl
 mark (suc zero) h = refl
 mark (suc (suc b)) h = absurd (lt_irrefl 0 (omega arith))
 
-pub record-bytes : (s : List ℕ) (i : ℕ) → AllBelow 256 s → first_wrong_record s ≡ none → i < length s / 8
+pub record_bytes : (s : List ℕ) (i : ℕ) → AllBelow 256 s → first_wrong_record s ≡ none → i < length s / 8
     → tick_bytes (tick_at s i) ≡ take 8 (drop (8 * i) s)
 unfolding wrong_record first_wrong_record
-record-bytes s i bytes fine h =
+record_bytes s i bytes fine h =
     let k = 8 * i in
     let right : wrong_record s i ≡ false = where_none (wrong_record s) (length s / 8) 0 fine i (omega arith) (omega arith) in
     let a = or_inv (ltb 1 (get_or s (k + 5) 0) || ltb 0 (get_or s (k + 6) 0)) (ltb 0 (get_or s (k + 7) 0)) right in

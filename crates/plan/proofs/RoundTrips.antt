@@ -39,8 +39,8 @@ module _ (t s : List ℕ) (room : ℕ) (fine : write_refusal t s room ≡ none) 
   rows_right : wrong_size rows_kind (length (table_bytes t)) ≡ false
   rows_right = ap wrong_rows (table_length t) ∙ rows_size (length t) allows.some allows.few allows.fours
 
-  script-right : 1 ≤ length s → wrong_size script_kind (length s) ≡ false
-  script-right h = rw (ne_eqb (length s) 0 (λ e. lt_irrefl 0 (omega arith)), eq-eqb (length s % 8) 0 allows.eights)
+  script_right : 1 ≤ length s → wrong_size script_kind (length s) ≡ false
+  script_right h = rw (ne_eqb (length s) 0 (λ e. lt_irrefl 0 (omega arith)), eq-eqb (length s % 8) 0 allows.eights)
 
 -- sections that are right one after the other, from place i on
 abbrev Right : ℕ → List Section → Type 0
@@ -72,7 +72,7 @@ optional_body k (x ∷ xs) = rw (eq-eqb k k refl)
 
 sections_right : (t s : List ℕ) (room : ℕ) → write_refusal t s room ≡ none → Right 0 (plan_of t s)
 unfolding plan_of wrong_kind
-sections_right t s room fine = (refl, rows_right t s room fine, optional_right 1 script_kind s (λ h. (refl, script-right t s room fine h)))
+sections_right t s room fine = (refl, rows_right t s room fine, optional_right 1 script_kind s (λ h. (refl, script_right t s room fine h)))
 
 sections_few : (t s : List ℕ) → (1 ≤ length (plan_of t s)) × (length (plan_of t s) ≤ most_sections)
 unfolding plan_of
@@ -146,9 +146,9 @@ module _ (ss : List Section) (p : Plan ss) where
   abbrev script : List ℕ
   script = body_of script_kind ss
 
-  plan-again : AllBelow 256 rows → plan_of (table_of rows) script ≡ ss
+  plan_again : AllBelow 256 rows → plan_of (table_of rows) script ≡ ss
   unfolding plan_of
-  plan-again bytes =
+  plan_again bytes =
       ap (λ (b : List ℕ). section rows_kind b ∷ optional script_kind script) (table_again rows bytes (omega (arith, rows_shape ss p)))
       ∙ ap (λ (l : List Section). section rows_kind rows ∷ l) (sym (append-nil (optional script_kind script)))
       ∙ ap (λ (l : List Section). l ++ (optional script_kind script ++ [])) (sym (there rows_kind rows (omega (arith, rows_shape ss p))))
@@ -177,7 +177,7 @@ module _ (f : List ℕ) (bytes : AllBelow 256 f) (accepted : read_refusal f ≡ 
   read_again =
       ap (λ (r : List ℕ). file_of (plan_of (table_of r) (part_of script_kind f))) (the_part f rows_kind accepted)
       ∙ ap (λ (s : List ℕ). file_of (plan_of (table_of (body_of rows_kind (sections_of f))) s)) (the_part f script_kind accepted)
-      ∙ ap file_of (plan-again (sections_of f) plan (body_bytes f rows_kind bytes))
+      ∙ ap file_of (plan_again (sections_of f) plan (body_bytes f rows_kind bytes))
       ∙ meaning_file f bytes accepted
 
   -- and the writer refuses none of it where there is room

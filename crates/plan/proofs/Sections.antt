@@ -33,8 +33,8 @@ module _ (ss : List Section) (i : ℕ) where
   abbrev pub before : ℕ
   before = length (bodies (take i ss))
 
-  bodies-split : bodies ss ≡ bodies (take i ss) ++ bodies (drop i ss)
-  bodies-split = ap bodies (sym (take-append-drop i ss)) ∙ bodies_append (take i ss) (drop i ss)
+  bodies_split : bodies ss ≡ bodies (take i ss) ++ bodies (drop i ss)
+  bodies_split = ap bodies (sym (take-append-drop i ss)) ∙ bodies_append (take i ss) (drop i ss)
 
   pub from_section : i < length ss → drop i ss ≡ section_in ss i ∷ drop (suc i) ss
   from_section h = drop-cons ss i (section 0 []) h
@@ -64,16 +64,16 @@ contents_drop at (s ∷ ss) (suc i) h =
 
 -- three numbers in a row
 module _ (f : List ℕ) (p k a n : ℕ) (rest : List ℕ) (e : drop p f ≡ entry_bytes k a n ++ rest) where
-  first-number : k < 4294967296 → number_at f p ≡ k
-  first-number h =
+  first_number : k < 4294967296 → number_at f p ≡ k
+  first_number h =
       let z : p ≡ p + 0 = omega arith in
       ap (number_at f) z ∙ sym (number_drop f p 0) ∙ ap (λ (l : List ℕ). number_at l 0) e ∙ number_front k (bytes_of a ++ (bytes_of n ++ rest)) h
 
-  second-number : a < 4294967296 → number_at f (p + 4) ≡ a
-  second-number h = sym (number_drop f p 4) ∙ ap (λ (l : List ℕ). number_at l 4) e ∙ number_at_lem (bytes_of k) a (bytes_of n ++ rest) 4 refl h
+  second_number : a < 4294967296 → number_at f (p + 4) ≡ a
+  second_number h = sym (number_drop f p 4) ∙ ap (λ (l : List ℕ). number_at l 4) e ∙ number_at_lem (bytes_of k) a (bytes_of n ++ rest) 4 refl h
 
-  third-number : n < 4294967296 → number_at f (p + 8) ≡ n
-  third-number h = sym (number_drop f p 8) ∙ ap (λ (l : List ℕ). number_at l 8) e ∙ number_at_lem (bytes_of k ++ bytes_of a) n rest 8 refl h
+  third_number : n < 4294967296 → number_at f (p + 8) ≡ n
+  third_number h = sym (number_drop f p 8) ∙ ap (λ (l : List ℕ). number_at l 8) e ∙ number_at_lem (bytes_of k ++ bytes_of a) n rest 8 refl h
 
 -- a file that is small enough for its numbers
 module _ (ss : List Section) (small : length (file_of ss) < 4294967296) where
@@ -105,7 +105,7 @@ module _ (ss : List Section) (small : length (file_of ss) < 4294967296) where
     bodies_from : drop (before ss i) (bodies ss) ≡ s.body ++ bodies (drop (suc i) ss)
     unfolding bodies
     bodies_from =
-        ap (drop (before ss i)) (bodies-split ss i)
+        ap (drop (before ss i)) (bodies_split ss i)
         ∙ drop_at (bodies (take i ss)) (bodies (drop i ss)) (before ss i) refl
         ∙ ap bodies (from_section ss i h)
 
@@ -119,7 +119,7 @@ module _ (ss : List Section) (small : length (file_of ss) < 4294967296) where
     body_inside =
         let rest = bodies (drop (suc i) ss) in
         let e : length (bodies ss) ≡ before ss i + (length s.body + length rest) =
-        ap length (bodies-split ss i ∙ ap (λ (l : List Section). bodies (take i ss) ++ bodies l) (from_section ss i h))
+        ap length (bodies_split ss i ∙ ap (λ (l : List Section). bodies (take i ss) ++ bodies l) (from_section ss i h))
         ∙ length-append (bodies (take i ss)) (s.body ++ rest)
         ∙ ap (λ (x : ℕ). before ss i + x) (length-append s.body rest) in
         omega (arith, file_length_lem ss)
@@ -136,17 +136,17 @@ module _ (ss : List Section) (small : length (file_of ss) < 4294967296) where
     rest = contents (start + length s.body) (drop (suc i) ss) ++ bodies ss
 
     pub kind_read : s.kind < 4294967296 → (entry_at file i).kind ≡ s.kind
-    kind_read k = first-number file (4 + 12 * i) s.kind start (length s.body) rest entry_bytes_lem k
+    kind_read k = first_number file (4 + 12 * i) s.kind start (length s.body) rest entry_bytes_lem k
 
     pub offset_read : (entry_at file i).offset ≡ start
     offset_read =
         let z : 8 + 12 * i ≡ 4 + 12 * i + 4 = omega arith in
-        ap (number_at file) z ∙ second-number file (4 + 12 * i) s.kind start (length s.body) rest entry_bytes_lem (omega (arith, body_inside))
+        ap (number_at file) z ∙ second_number file (4 + 12 * i) s.kind start (length s.body) rest entry_bytes_lem (omega (arith, body_inside))
 
     pub length_read : (entry_at file i).length ≡ length s.body
     length_read =
         let z : 12 + 12 * i ≡ 4 + 12 * i + 8 = omega arith in
-        ap (number_at file) z ∙ third-number file (4 + 12 * i) s.kind start (length s.body) rest entry_bytes_lem (omega (arith, body_inside))
+        ap (number_at file) z ∙ third_number file (4 + 12 * i) s.kind start (length s.body) rest entry_bytes_lem (omega (arith, body_inside))
 
     pub section_read : s.kind < 4294967296 → section_at file i ≡ s
     section_read k =

@@ -17,14 +17,14 @@ use Rattle.plan.specs.Numbers.{number_at, numbers_in, table_of}
 use Rattle.plan.specs.Bodies.{record_of, taken_of, after_taken, Takes}
 
 -- RECORDS
-pub record-there : (s : List ℕ) (i m b : ℕ) → i < length s / 8 → m ≡ number_at s (8 * i) → b ≡ get_or s (8 * i + 5) 0
+pub record_there : (s : List ℕ) (i m b : ℕ) → i < length s / 8 → m ≡ number_at s (8 * i) → b ≡ get_or s (8 * i + 5) 0
     → Record (record { mask = m; signal = get_or s (8 * i + 4) 0; early = eqb b 1 }) ≡ record_of s i
 unfolding record_of
-record-there s i m b h p q = rw (lt-ltb _ _ h, p, q)
+record_there s i m b h p q = rw (lt-ltb _ _ h, p, q)
 
-pub record-missing : (s : List ℕ) (i : ℕ) → length s / 8 ≤ i → Missing ≡ record_of s i
+pub record_missing : (s : List ℕ) (i : ℕ) → length s / 8 ≤ i → Missing ≡ record_of s i
 unfolding record_of
-record-missing s i h = rw (le-ltb _ _ h)
+record_missing s i h = rw (le-ltb _ _ h)
 
 -- TABLES
 pub numbers_length : (f : List ℕ) (n : ℕ) → length (numbers_in f n) ≡ n

@@ -61,13 +61,13 @@ module _ (f : List ℕ) (accepted : read_refusal f ≡ none) where
 
 -- ## Records
 
-pub record-read : (s : List ℕ) (i : ℕ) (t : Tick) → i < length s / 8 → Record t ≡ record_of s i → t ≡ tick_at s i
+pub record_read : (s : List ℕ) (i : ℕ) (t : Tick) → i < length s / 8 → Record t ≡ record_of s i → t ≡ tick_at s i
 unfolding record_of
-record-read s i t h e = let z : Record t ≡ Record (tick_at s i) = rw (lt-ltb i (length s / 8) h) at e in cc
+record_read s i t h e = let z : Record t ≡ Record (tick_at s i) = rw (lt-ltb i (length s / 8) h) at e in cc
 
-pub record-there : (s : List ℕ) (i : ℕ) → i < length s / 8 → Missing ≡ record_of s i → ⊥
+pub record_there : (s : List ℕ) (i : ℕ) → i < length s / 8 → Missing ≡ record_of s i → ⊥
 unfolding record_of
-record-there s i h e =
+record_there s i h e =
     let z : Missing ≡ Record (tick_at s i) = rw (lt-ltb i (length s / 8) h) at e in
     let y : ◌≡◌ {A = ℕ} 0 1 = cc in
     omega arith

@@ -50,11 +50,11 @@ module _ (l : List TakenTick) (few : length l ≤ 65536) where
       let open-jobs : jobs_open l i ≤ last_place = omega (arith, number_low (is_open l i) (length l)) in
       (omega arith, (arrived, (guests, (hypertasks, (open-jobs, tt)))))
 
-  task-lines-short : (n i : ℕ) → i + n ≤ 32 → length (task_lines l i n) ≤ 110 * n
+  task_lines_short : (n i : ℕ) → i + n ≤ 32 → length (task_lines l i n) ≤ 110 * n
   unfolding task_lines
-  task-lines-short zero i h = omega arith
-  task-lines-short (suc n) i h =
-      let rest = task-lines-short n (suc i) (omega arith) in
+  task_lines_short zero i h = omega arith
+  task_lines_short (suc n) i h =
+      let rest = task_lines_short n (suc i) (omega arith) in
       let line = task_line (i + 1) (jobs_arrived l i) (guest_outputs_of l i) (hypertask_outputs_of l i) (jobs_open l i) in
       le_trans (both_short line (task_lines l (suc i) n) (task_short _ _ _ _ _ (counted i (omega arith))) rest) (omega arith)
 
@@ -64,8 +64,8 @@ module _ (s : List ℕ) (n : ℕ) (accepted : start_answer s ≡ Accepted n) whe
   tasks : n ≡ rows s
   tasks = (schedulable s n accepted).0
 
-  numbers-right : Schedulable s (R s) (E s) (G s)
-  numbers-right = (schedulable s n accepted).1
+  numbers_right : Schedulable s (R s) (E s) (G s)
+  numbers_right = (schedulable s n accepted).1
 
   few : n ≤ 32
   few = tasks_few s (replicate 96 0) n refl accepted
@@ -74,12 +74,12 @@ module _ (s : List ℕ) (n : ℕ) (accepted : start_answer s ≡ Accepted n) whe
   abbrev row : ℕ → List ℕ
   row i = T s i ∷ D s i ∷ C s i ∷ K s i ∷ three_of s i
 
-  row-counted : (i : ℕ) → i < n → Counted ((i + 1) ∷ row i)
-  row-counted i h =
+  row_counted : (i : ℕ) → i < n → Counted ((i + 1) ∷ row i)
+  row_counted i h =
       let b : i < rows s = omega (arith, tasks) in
-      let sd = numbers-right.sound in
-      let own = numbers-right.offsets i b in
-      let window = numbers-right.guests i b in
+      let sd = numbers_right.sound in
+      let own = numbers_right.offsets i b in
+      let window = numbers_right.guests i b in
       let t : T s i ≤ last_place = omega (arith, T≤ s sd i b) in
       let d : D s i ≤ last_place = omega (arith, D≤ s sd i b) in
       let c : C s i ≤ last_place = omega (arith, C≤ s sd i b) in
@@ -87,18 +87,18 @@ module _ (s : List ℕ) (n : ℕ) (accepted : start_answer s ≡ Accepted n) whe
       let g : G s i ≤ last_place = omega (arith, window.larger, window.wa_within, window.we_within) in
       (omega (arith, few), (t, (d, (c, (k, (omega arith, (omega arith, (g, tt))))))))
 
-  row-lines-short : (k i : ℕ) → i + k ≤ n → length (row_lines s i k) ≤ 168 * k
+  row_lines_short : (k i : ℕ) → i + k ≤ n → length (row_lines s i k) ≤ 168 * k
   unfolding row_lines
-  row-lines-short zero i h = omega arith
-  row-lines-short (suc k) i h =
-      let line = row_short (i + 1) (row i) (row-counted i (omega arith)) refl in
-      let rest = row-lines-short k (suc i) (omega arith) in
+  row_lines_short zero i h = omega arith
+  row_lines_short (suc k) i h =
+      let line = row_short (i + 1) (row i) (row_counted i (omega arith)) refl in
+      let rest = row_lines_short k (suc i) (omega arith) in
       le_trans (both_short (row_line (i + 1) (row i)) (row_lines s (suc i) k) line rest) (omega arith)
 
-  script-short : (script : List ℕ) → length script ≤ 65536
+  script_short : (script : List ℕ) → length script ≤ 65536
       → length (script_text (start_of s).machine script n) ≤ 70 * (length script / 8) + 110 * n
   unfolding onward
-  script-short script h =
+  script_short script h =
       let m = (start_of s).machine in
       let e = started_accepted s n accepted in
       let long : length m.rows ≡ 32 = ap (λ (x : Started). length x.machine.rows) e ∙ length_places s n few in
@@ -106,15 +106,15 @@ module _ (s : List ℕ) (n : ℕ) (accepted : start_answer s ≡ Accepted n) whe
       let many = ticks_length script (length script / 8) 0 in
       let ticks = tick_lines_short (run m []) (ticks_of script) long (omega arith) in
       let l = (run m (ticks_of script)).taken in
-      let totals = task-lines-short l (omega (arith, taken_few m script (length script / 8))) n 0 (omega (arith, few)) in
+      let totals = task_lines_short l (omega (arith, taken_few m script (length script / 8))) n 0 (omega (arith, few)) in
       le_trans (both_short (tick_lines (run m []) (ticks_of script)) (task_lines l 0 n) ticks totals) (omega arith)
 
 accepted_short : (s script : List ℕ) (n : ℕ) → start_answer s ≡ Accepted n → length script ≤ 65536
     → length (answer_by s script (Accepted n)) ≤ 655360
 accepted_short s script n a h =
     let tasks = few s n a in
-    let head = both_short (accept_line n) (row_lines s 0 n) (accept_short n (omega arith)) (row-lines-short s n a n 0 (omega arith)) in
-    le_trans (both_short (accept_line n ++ row_lines s 0 n) (script_text (start_of s).machine script n) head (script-short s n a script h)) (omega arith)
+    let head = both_short (accept_line n) (row_lines s 0 n) (accept_short n (omega arith)) (row_lines_short s n a n 0 (omega arith)) in
+    le_trans (both_short (accept_line n ++ row_lines s 0 n) (script_text (start_of s).machine script n) head (script_short s n a script h)) (omega arith)
 
 -- ## Every text
 

@@ -51,9 +51,9 @@ module _ (f : List ℕ) where
   entry_place r g o within next l = place_at r o next (λ k e. omega (arith, g k, within k e, l.few))
 
   -- a record of its script
-  record-place : (k : ℕ) → first_wrong_record (body_of script_kind (sections_of f)) ≡ some k → k ≤ length f
+  record_place : (k : ℕ) → first_wrong_record (body_of script_kind (sections_of f)) ≡ some k → k ≤ length f
   unfolding first_wrong_record sections_of
-  record-place k e = omega (arith, (where_some _ (length (body_of script_kind (sections_of f)) / 8) 0 k e).below, body_length script_kind f (count f) 0)
+  record_place k e = omega (arith, (where_some _ (length (body_of script_kind (sections_of f)) / 8) 0 k e).below, body_length script_kind f (count f) 0)
 
   pub read_place : length f ≤ last_place → CountedPlace (read_refusal f)
   unfolding read_refusal entries_refusal
@@ -64,13 +64,13 @@ module _ (f : List ℕ) where
       entry_place (λ i. Refusal.Contents (i + 1)) (λ k. refl) _ (entry_in f _) _ l
       (entry_place (λ i. Refusal.BodyPlace (i + 1)) (λ k. refl) _ (entry_in f _) _ l
       (entry_place (λ i. Refusal.BodySize (i + 1)) (λ k. refl) _ (entry_in f _) _ l
-      (place_at (λ k. Refusal.RecordBytes k) (first_wrong_record (body_of script_kind (sections_of f))) _ (λ k e. omega (arith, record-place k e)) tt)))))
+      (place_at (λ k. Refusal.RecordBytes k) (first_wrong_record (body_of script_kind (sections_of f))) _ (λ k e. omega (arith, record_place k e)) tt)))))
 
 -- ## A refused table
 
 module _ (s : List ℕ) where
-  check-place : (r : Refusal) → table_check s ≡ Stopped r → place_of r ≤ length s
-  check-place = table_stopped s (λ (r : Refusal). place_of r ≤ length s) (omega arith)
+  check_place : (r : Refusal) → table_check s ≡ Stopped r → place_of r ≤ length s
+  check_place = table_stopped s (λ (r : Refusal). place_of r ≤ length s) (omega arith)
       (λ k e. omega (arith, (where_some (bad_field s) (length s) 0 k e).below))
       (λ j e. omega (arith, (where_some (bad_deadline s) (rows s) 0 j e).below))
 
@@ -79,7 +79,7 @@ module _ (s : List ℕ) where
   start_place r e = go (table_check s) refl e
     where
       go : (c : Checked) → table_check s ≡ c → and_then c (solved s) ≡ Refused r → place_of r ≤ length s
-      go (Stopped x) p q = let z : x ≡ r = cc in rw (← z) (check-place x p)
+      go (Stopped x) p q = let z : x ≡ r = cc in rw (← z) (check_place x p)
       go Passed p q = ⊎_elim
           (λ (w : FirstFailing (response s) 0 (rows s) r). ⊎_elim
           (λ (x : (r ≡ Refusal.NoActivePeriod (w.row + 1)) × NoActive s w.row). rw x.0 (omega (arith, w.below)))

@@ -9,7 +9,7 @@ returns c =
     let f = a.file.now in
     let part = part_of rows_kind f in
     let r = c.rows_of-rows in
-    let bytes = c.shared_slice_known-1.given in
+    let bytes = c.type_inv.file in
     let fours = rows_fours f (λ j h. omega (arith, bytes j)) in
     record {
       answers = table_length part _ r.ensures;

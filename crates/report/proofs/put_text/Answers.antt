@@ -44,7 +44,7 @@ returns c =
     let e = answer_none (read_refusal f) (sym c.in_default.is ∙ c.check.ensures) in
     let t = c.table_of.ensures in
     let u = rw c.rows_of-rows.ensures at t in
-    let w = taken_rows f e (λ j h. omega (arith, c.shared_slice_known-1.given j)) _ _ u in
+    let w = taken_rows f e (λ j h. omega (arith, c.type_inv.file j)) _ _ u in
     let p = c.put_table.ensures in
     record {
       puts = rw (e, ← w, ← c.rows_of-rows.ensures, ← c.script_of.ensures) p.puts;
