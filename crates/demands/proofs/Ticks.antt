@@ -62,10 +62,14 @@ unfolding first_from
 look p pn [] i = miss (λ j. pn)
 look p pn (r ∷ rs) i = go (p r) refl (first_from (λ j r. p r) (suc i) rs) (look p pn rs (suc i))
   where
+    below : p r ≡ false → (k : ℕ) → ((j : ℕ) → j < k → p (row_at rs j) ≡ false) → (j : ℕ) → j < suc k → p (row_at (r ∷ rs) j) ≡ false
+    below q k n zero u = q
+    below q k n (suc j) u = n j (omega arith)
+
     go : (b : Bool) → p r ≡ b → (o : Found) → Looked p (suc i) rs o → Looked p i (r ∷ rs) (cond b (at i) o)
     go true q o f = hit i 0 (omega arith) (omega arith) q (λ j h. absurd (omega arith))
-    go false q o (hit x k e h t n) = hit x (suc k) (omega arith) (omega arith) t (λ j. elim j [ zero ↦ λ u. q | suc i ↦ λ u. n i (omega arith) ])
-    go false q o (miss n) = miss (λ j. elim j [ zero ↦ q | suc i ↦ n i ])
+    go false q o (hit x k e h t n) = hit x (suc k) (omega arith) (omega arith) t (below q k n)
+    go false q o (miss n) = miss (λ j. below q (suc j) (λ i u. n i) j (omega arith))
 
 module _ (row : ℕ → Row) (N : ℕ) where
   -- well formed rows at the start of tick c; cur: the only one that may have begun

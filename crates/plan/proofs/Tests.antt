@@ -9,7 +9,7 @@ use native.Mathlib.Nat.{lt_irrefl, pos_of_ne-zero}
 use native.Mathlib.Omega.{arith}
 use borrow.Author.Tests.{lt-ltb, le-ltb, eq-eqb, ne_eqb}
 use lib.Dec.{ltb, eqb}
-use lib.ListN.{length, get_or}
+use lib.ListN.{get_or}
 use Rattle.refusals.specs.declared.Refusal.{Refusal}
 use Rattle.plan.specs.declared.Answer.TheVariants.{Accepted, Refused}
 use Rattle.plan.specs.declared.Found.TheVariants.{At, Nothing}

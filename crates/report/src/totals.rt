@@ -93,9 +93,9 @@ fn add_taken(
     taken: Taken,
 )
     requires { (Counters arrived.old) × (Counters guests.old) × (Counters hypertasks.old) }
-    ensures added { Added arrived.old (λ i. brings_to mask i (Answer.Taken taken)) arrived.new }
-    ensures added_2 { Added guests.old (λ i. guest_gives_to i (Answer.Taken taken)) guests.new }
-    ensures added_3 { Added hypertasks.old (λ i. hypertask_gives_to i (Answer.Taken taken)) hypertasks.new }
+    ensures arrived_added { Added arrived.old (λ i. brings_to mask i (Answer.Taken taken)) arrived.new }
+    ensures guests_added { Added guests.old (λ i. guest_gives_to i (Answer.Taken taken)) guests.new }
+    ensures hypertasks_added { Added hypertasks.old (λ i. hypertask_gives_to i (Answer.Taken taken)) hypertasks.new }
 {
     let mark = taken.mark;
     let ran = taken.ran;
@@ -113,9 +113,9 @@ pub(crate) fn count(
     answer: Answer,
 )
     requires { (Counters arrived.old) × (Counters guests.old) × (Counters hypertasks.old) }
-    ensures added { Added arrived.old (λ i. brings_to mask i answer) arrived.new }
-    ensures added_2 { Added guests.old (λ i. guest_gives_to i answer) guests.new }
-    ensures added_3 { Added hypertasks.old (λ i. hypertask_gives_to i answer) hypertasks.new }
+    ensures arrived_added { Added arrived.old (λ i. brings_to mask i answer) arrived.new }
+    ensures guests_added { Added guests.old (λ i. guest_gives_to i answer) guests.new }
+    ensures hypertasks_added { Added hypertasks.old (λ i. hypertask_gives_to i answer) hypertasks.new }
 {
     match answer {
         Answer::Taken(taken) => add_taken(arrived, guests, hypertasks, mask, taken),

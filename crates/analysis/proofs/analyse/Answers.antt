@@ -5,32 +5,25 @@ use Rattle.equations.specs.Analysis.{table_check, analysis}
 use Rattle.equations.specs.declared.Checked.TheVariants.{Passed}
 use Rattle.equations.proofs.Checks.{results_short, results_fit, refused_1_to_3, refused_4, entered, results_by_lem}
 use Rattle.analysis.proofs.analyse.Goals.{In_default}
-use Rattle.analysis.proofs.analyse.Lts as lts
 use Rattle.analysis.proofs.analyse.Goals as goal
 
 table_passes : (c : In_default) → table_check c.args.table.now ≡ Passed
 table_passes c = sym c.check.ensures.value ∙ c.in_default.is
 
 pub returns-in-Stopped : goal.returns-in-Stopped
-returns-in-Stopped c = let a = c in
-    let s = a.args.table.now in
-    let e = refused_1_to_3 s (length a.args.results.now) _ (sym c.check.ensures.value ∙ c.in-Stopped.is) in
-    record { answers = sym e; leaves = results_by_lem s a.args.results.now _ e }
+returns-in-Stopped c = let s = c.args.table.now in
+    let e = refused_1_to_3 s (length c.args.results.now) _ (sym c.check.ensures.value ∙ c.in-Stopped.is) in
+    record { answers = sym e; leaves = results_by_lem s c.args.results.now _ e }
 
 pub returns-then-results-needed : goal.returns-then-results-needed
-returns-then-results-needed c = let a = c in
-    let s = a.args.table.now in
-    let m = length a.args.results.now in
+returns-then-results-needed c = let s = c.args.table.now in
+    let m = length c.args.results.now in
     let e = refused_4 s m _ (table_passes (goal.at.returns-then-results-needed c).In_default) (results_short s m c.if-results-needed.true) in
-    record { answers = sym e; leaves = results_by_lem s a.args.results.now _ e }
-
-pub solve-requires : goal.solve-requires
-solve-requires c = (c.check.ensures.sound c.in_default.is, omega arith)
+    record { answers = sym e; leaves = results_by_lem s c.args.results.now _ e }
 
 pub returns : goal.returns
-returns c = let a = c in
-    let s = a.args.table.now in
-    let m = length a.args.results.now in
+returns c = let s = c.args.table.now in
+    let m = length c.args.results.now in
     let e : analysis s m ≡ c.solve.result = entered s m (table_passes (goal.at.returns c).In_default)
     (results_fit s m (omega arith)) ∙ sym c.solve.ensures.value in
-    record { answers = sym e; leaves = c.solve.ensures.lent_after ∙ results_by_lem s a.args.results.now _ e }
+    record { answers = sym e; leaves = c.solve.ensures.lent_after ∙ results_by_lem s c.args.results.now _ e }

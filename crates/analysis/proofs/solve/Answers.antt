@@ -1,20 +1,19 @@
 use mathlib.Core.Path.{◌≡◌, refl, sym, ap, ◌∙◌}
 use mathlib.Core.List.{List, ◌++◌}
 use Prim.Native.Nat.{ℕ, ◌*◌}
-use native.Mathlib.Omega.{arith}
 use lib.ListN.{drop}
 use Rattle.equations.specs.Table.{rows}
 use Rattle.equations.specs.Analysis.{hypertask_check, guest_check}
 use Rattle.equations.specs.declared.Checked.TheVariants.{Passed}
 use Rattle.equations.proofs.Checks.{refused_5_or_6, refused_7_or_19, accepted}
 use Rattle.analysis.specs.Loops.{Filled, GuestsFilled}
-use Rattle.analysis.proofs.Loops.{offsets, results_are}
+use Rattle.analysis.proofs.Loops.{results_are}
 use Rattle.analysis.proofs.solve.Goals.{In_default, In_default-guests}
 use Rattle.analysis.proofs.solve.Goals as goal
 
 -- R and E of all rows are there
 filled : (c : In_default) → Filled c.args.table.now
-    c.hypertasks.new.1.0 c.hypertasks.new.1.1.0 (rows c.args.table.now)
+    c.hypertasks.new.rs c.hypertasks.new.es (rows c.args.table.now)
 filled c = c.hypertasks.ensures.filled c.in_default.is
 
 hypertasks_pass : (c : In_default) → hypertask_check c.args.table.now ≡ Passed
@@ -23,7 +22,7 @@ hypertasks_pass c = sym c.hypertasks.ensures.value ∙ c.in_default.is
 -- and G
 guests_filled : (c : In_default-guests)
     → GuestsFilled c.args.table.now
-    c.guests.new.1.1.0
+    c.guests.new.gs
     (rows c.args.table.now)
 guests_filled c = c.guests.ensures.guests_filled c.in_default-guests.is
 
@@ -38,47 +37,16 @@ returns-in-Stopped c = let s = c.args.table.now in
       lent_after = refl;
     }
 
-pub slice_bounds-guests-end : goal.slice_bounds-guests-end
-slice_bounds-guests-end c = sym (filled (goal.at.slice_bounds-guests-end c).In_default).long'
-
-pub guests-requires : goal.guests-requires
-guests-requires c = (c.requires.0, offsets _ _ _ (filled (goal.at.guests-requires c).In_default), refl)
-
 pub returns-in-Stopped-guests : goal.returns-in-Stopped-guests
 returns-in-Stopped-guests c = let s = c.args.table.now in record {
-      value = sym (refused_7_or_19 s _ (hypertasks_pass (goal.at.returns-in-Stopped-guests c).In_default) (sym c.guests.ensures.value
-          ∙ c.in-Stopped-guests.is));
-      lent_after = refl;
-    }
-
-pub slice_bounds-write-end : goal.slice_bounds-write-end
-slice_bounds-write-end c = sym (filled (goal.at.slice_bounds-write-end c).In_default).long
-
-pub slice_bounds-write-end-2 : goal.slice_bounds-write-end-2
-slice_bounds-write-end-2 c = sym (filled (goal.at.slice_bounds-write-end-2 c).In_default).long'
-
-pub slice_bounds-write-end-3 : goal.slice_bounds-write-end-3
-slice_bounds-write-end-3 c = sym (guests_filled (goal.at.slice_bounds-write-end-3 c).In_default-guests).long
-
-pub write-requires : goal.write-requires
-write-requires c = let a = c in
-    let f = filled (goal.at.write-requires c).In_default in (
-      a.requires.1,
-      omega (arith, f.long, a.requires.0.few),
-      omega (arith, f.long', a.requires.0.few),
-      omega (
-        arith,
-        (guests_filled (goal.at.write-requires c).In_default-guests).long,
-        a.requires.0.few,
-      ),
-    )
+  value = sym (refused_7_or_19 s _ (hypertasks_pass (goal.at.returns-in-Stopped-guests c).In_default) (sym c.guests.ensures.value
+      ∙ c.in-Stopped-guests.is));
+  lent_after = refl;
+}
 
 pub returns : goal.returns
-returns c = let g = c in
-    let f = g in
-    let a = f in
-    let s = a.args.table.now in record {
-      value = sym (accepted s (hypertasks_pass (goal.at.returns c).In_default) (guests_pass (goal.at.returns c).In_default-guests));
-      lent_after = c.write.ensures ∙ ap (λ (x : List ℕ). x ++ drop (3 * rows s) a.args.lent.now) (results_are s _ _ _ (rows s) (filled (goal.at.returns c).In_default)
-          (guests_filled (goal.at.returns c).In_default-guests));
-    }
+returns c = let s = c.args.table.now in record {
+  value = sym (accepted s (hypertasks_pass (goal.at.returns c).In_default) (guests_pass (goal.at.returns c).In_default-guests));
+  lent_after = c.write.ensures ∙ ap (λ (x : List ℕ). x ++ drop (3 * rows s) c.args.lent.now) (results_are s _ _ _ (rows s) (filled (goal.at.returns c).In_default)
+      (guests_filled (goal.at.returns c).In_default-guests));
+}

@@ -6,22 +6,19 @@ pub returns-then-r-gt1000000 : goal.returns-then-r-gt1000000
 returns-then-r-gt1000000 c = rw (← fields_law c.args.r, lt-leb _ _ c.if-r-gt1000000.true)
 
 pub returns-then-r : goal.returns-then-r
-returns-then-r c = let p = c in
-    rw (← fields_law p.args.r, le-leb _ _ p.if-r-gt1000000.false, lt-leb _ _ c.if-r.true)
+returns-then-r c = rw (← fields_law c.args.r, le-leb _ _ c.if-r-gt1000000.false, lt-leb _ _ c.if-r.true)
 
 pub returns-then-r-2 : goal.returns-then-r-2
-returns-then-r-2 c = let p = c in
-    let r = p.args.r in
-    rw (← fields_law r, le-leb _ _ p.if-r-gt1000000.false, le-leb _ _ p.if-r.false, le-ltb _ _ c.if-r-2.true)
+returns-then-r-2 c = let r = c.args.r in
+    rw (← fields_law r, le-leb _ _ c.if-r-gt1000000.false, le-leb _ _ c.if-r.false, le-ltb _ _ c.if-r-2.true)
 
 pub returns : goal.returns
-returns c = let p = c in
-    let r = p.args.r in
+returns c = let r = c.args.r in
     rw (
       ← fields_law r,
-      le-leb _ _ p.if-r-gt1000000.false,
-      le-leb _ _ p.if-r.false,
-      lt-ltb _ _ p.if-r-2.false,
+      le-leb _ _ c.if-r-gt1000000.false,
+      le-leb _ _ c.if-r.false,
+      lt-ltb _ _ c.if-r-2.false,
       c.within.ensures,
       c.within-2.ensures,
     )

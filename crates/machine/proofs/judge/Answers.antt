@@ -12,44 +12,37 @@ returns-then-clock-eq1099511627776 c = rw (c.if-count-clock.false, eq-eqb _ _ c.
 
 pub returns-then-past-lt32 : goal.returns-then-past-lt32
 unfolding judged_by
-returns-then-past-lt32 c = let p = c in
-    rw (p.if-count-clock.false, ne_eqb _ _ p.if-clock-eq1099511627776.false, ← c.lowest_past-past.ensures, lt-ltb _ _ c.if-past-lt32.true)
+returns-then-past-lt32 c = rw (c.if-count-clock.false, ne_eqb _ _ c.if-clock-eq1099511627776.false, ← c.lowest_past-past.ensures, lt-ltb _ _ c.if-past-lt32.true)
 
 pub returns-then-w-lt32 : goal.returns-then-w-lt32
 unfolding judged_by
-returns-then-w-lt32 c = let q = c in
-    let p = q in
-    rw (
-      p.if-count-clock.false,
-      ne_eqb _ _ p.if-clock-eq1099511627776.false,
-      ← q.lowest_past-past.ensures,
-      le-ltb _ _ c.if-past-lt32.false,
-      lt-ltb _ _ c.if-w-lt32.true,
-    )
+returns-then-w-lt32 c = rw (
+  c.if-count-clock.false,
+  ne_eqb _ _ c.if-clock-eq1099511627776.false,
+  ← c.lowest_past-past.ensures,
+  le-ltb _ _ c.if-past-lt32.false,
+  lt-ltb _ _ c.if-w-lt32.true,
+)
 
 pub returns-then-w-lt32-2 : goal.returns-then-w-lt32-2
 unfolding judged_by
-returns-then-w-lt32-2 c = let q = c in
-    let p = q in
-    rw (
-      p.if-count-clock.false,
-      ne_eqb _ _ p.if-clock-eq1099511627776.false,
-      ← q.lowest_past-past.ensures,
-      le-ltb _ _ c.if-past-lt32.false,
-      le-ltb _ _ c.if-w-lt32.false,
-      lt-ltb _ _ c.if-w-lt32-2.true,
-    )
+returns-then-w-lt32-2 c = rw (
+  c.if-count-clock.false,
+  ne_eqb _ _ c.if-clock-eq1099511627776.false,
+  ← c.lowest_past-past.ensures,
+  le-ltb _ _ c.if-past-lt32.false,
+  le-ltb _ _ c.if-w-lt32.false,
+  lt-ltb _ _ c.if-w-lt32-2.true,
+)
 
 pub returns : goal.returns
 unfolding judged_by
-returns c = let q = c in
-    let p = q in
-    rw (
-      p.if-count-clock.false,
-      ne_eqb _ _ p.if-clock-eq1099511627776.false,
-      ← q.lowest_past-past.ensures,
-      le-ltb _ _ c.if-past-lt32.false,
-      le-ltb _ _ c.if-w-lt32.false,
-      le-ltb _ _ c.if-w-lt32-2.false,
-      c.choose.ensures,
-    )
+returns c = rw (
+  c.if-count-clock.false,
+  ne_eqb _ _ c.if-clock-eq1099511627776.false,
+  ← c.lowest_past-past.ensures,
+  le-ltb _ _ c.if-past-lt32.false,
+  le-ltb _ _ c.if-w-lt32.false,
+  le-ltb _ _ c.if-w-lt32-2.false,
+  c.choose.ensures,
+)

@@ -12,16 +12,13 @@ pub loop-i-init : goal.loop-i-init
 loop-i-init c = (omega arith, refl)
 
 pub returns-then-named : goal.returns-then-named
-returns-then-named c = let p = c in
-    let e = sym c.named.ensures ∙ c.if-named.true in
-    sym (p.loop-i.invariant.1 ∙ past_hit p.args.mask p.loop-i.i (32 - p.loop-i.i) (omega arith) e)
+returns-then-named c = let e = sym c.named.ensures ∙ c.if-named.true in
+    sym (c.loop-i.invariant.1 ∙ past_hit c.args.mask c.loop-i.i (32 - c.loop-i.i) (omega arith) e)
 
 pub loop-i-preserved : goal.loop-i-preserved
-loop-i-preserved c = let p = c in
-    let e = sym c.named.ensures ∙ c.if-named.false in
-    let z : 32 - p.loop-i.i - 1 ≡ 32 - (p.loop-i.i + 1) = omega arith in
-    (omega arith, p.loop-i.invariant.1 ∙ past_miss p.args.mask p.loop-i.i (32 - p.loop-i.i) (omega arith) e ∙ rw z)
+loop-i-preserved c = let e = sym c.named.ensures ∙ c.if-named.false in
+    let z : 32 - c.loop-i.i - 1 ≡ 32 - (c.loop-i.i + 1) = omega arith in
+    (omega arith, c.loop-i.invariant.1 ∙ past_miss c.args.mask c.loop-i.i (32 - c.loop-i.i) (omega arith) e ∙ rw z)
 
 pub returns : goal.returns
-returns c = let p = c in
-    sym (p.loop-i.invariant.1 ∙ past_end p.args.mask p.loop-i.i (32 - p.loop-i.i) (omega arith))
+returns c = sym (c.loop-i.invariant.1 ∙ past_end c.args.mask c.loop-i.i (32 - c.loop-i.i) (omega arith))

@@ -13,58 +13,40 @@ returns-then-l-lt1 c = rw (c.nothing-then-l-lt1.ensures, le-leb _ _ c.if-clock-a
 
 pub returns-then-k-l : goal.returns-then-k-l
 unfolding stage_fits
-returns-then-k-l c = let p = c in
-    rw (c.nothing-then-k-l.ensures, le-leb _ _ p.if-clock-a.false, le-leb _ _ p.if-l-lt1.false, lt-leb _ _ c.if-k-l.true)
+returns-then-k-l c = rw (c.nothing-then-k-l.ensures, le-leb _ _ c.if-clock-a.false, le-leb _ _ c.if-l-lt1.false, lt-leb _ _ c.if-k-l.true)
 
 pub returns-then-age_of-e : goal.returns-then-age_of-e
 unfolding stage_fits
-returns-then-age_of-e c = let p = c in
-    rw (
-      c.nothing-then-age_of-e.ensures,
-      le-leb _ _ p.if-clock-a.false,
-      le-leb _ _ p.if-l-lt1.false,
-      le-leb _ _ p.if-k-l.false,
-      ← p.age_of.ensures,
-      le-ltb _ _ c.if-age_of-e.true,
-    )
-
-pub returns-then-w-lt32 : goal.returns-then-w-lt32
-unfolding stage_fits
-returns-then-w-lt32 c = let p = c in
-    rw (
-      c.nothing-then-w-lt32.ensures,
-      le-leb _ _ p.if-clock-a.false,
-      le-leb _ _ p.if-l-lt1.false,
-      le-leb _ _ p.if-k-l.false,
-      ← p.age_of.ensures,
-      lt-ltb _ _ c.if-age_of-e.false,
-      lt-ltb _ _ c.if-l-k.true,
-      lt-ltb _ _ c.if-w-lt32.true,
-    )
+returns-then-age_of-e c = rw (
+  c.nothing-then-age_of-e.ensures,
+  le-leb _ _ c.if-clock-a.false,
+  le-leb _ _ c.if-l-lt1.false,
+  le-leb _ _ c.if-k-l.false,
+  ← c.age_of.ensures,
+  le-ltb _ _ c.if-age_of-e.true,
+)
 
 pub returns-else-w-lt32 : goal.returns-else-w-lt32
 unfolding stage_fits stage_seen
-returns-else-w-lt32 c = let p = c in
-    rw (
-      c.kept.ensures,
-      le-leb _ _ p.if-clock-a.false,
-      le-leb _ _ p.if-l-lt1.false,
-      le-leb _ _ p.if-k-l.false,
-      ← p.age_of.ensures,
-      lt-ltb _ _ c.if-age_of-e.false,
-      lt-ltb _ _ c.if-l-k.true,
-      le-ltb _ _ c.if-w-lt32.false,
-    )
+returns-else-w-lt32 c = rw (
+  c.kept.ensures,
+  le-leb _ _ c.if-clock-a.false,
+  le-leb _ _ c.if-l-lt1.false,
+  le-leb _ _ c.if-k-l.false,
+  ← c.age_of.ensures,
+  lt-ltb _ _ c.if-age_of-e.false,
+  lt-ltb _ _ c.if-l-k.true,
+  le-ltb _ _ c.if-w-lt32.false,
+)
 
 pub returns-else-l-k : goal.returns-else-l-k
 unfolding stage_fits stage_seen
-returns-else-l-k c = let p = c in
-    rw (
-      c.kept.ensures,
-      le-leb _ _ p.if-clock-a.false,
-      le-leb _ _ p.if-l-lt1.false,
-      le-leb _ _ p.if-k-l.false,
-      ← p.age_of.ensures,
-      lt-ltb _ _ c.if-age_of-e.false,
-      le-ltb _ _ c.if-l-k.false,
-    )
+returns-else-l-k c = rw (
+  c.kept.ensures,
+  le-leb _ _ c.if-clock-a.false,
+  le-leb _ _ c.if-l-lt1.false,
+  le-leb _ _ c.if-k-l.false,
+  ← c.age_of.ensures,
+  lt-ltb _ _ c.if-age_of-e.false,
+  le-ltb _ _ c.if-l-k.false,
+)

@@ -8,15 +8,13 @@ returns-then-not-fields_fit c = rw (sym c.fields_fit.ensures ∙ c.if-not-fields
 
 pub returns-then-named : goal.returns-then-named
 unfolding row_seen
-returns-then-named c = let p = c in
-    rw (
-      sym p.fields_fit.ensures ∙ p.if-not-fields_fit.false,
-      sym c.named.ensures ∙ c.if-named.true,
-      ← p.see_stage-v.ensures,
-    ) c.see_arrival.ensures
+returns-then-named c = rw (
+  sym c.fields_fit.ensures ∙ c.if-not-fields_fit.false,
+  sym c.named.ensures ∙ c.if-named.true,
+  ← c.see_stage-v.ensures,
+) c.see_arrival.ensures
 
 pub returns-else-named : goal.returns-else-named
 unfolding row_seen
-returns-else-named c = let p = c in
-    let fits = sym p.fields_fit.ensures ∙ p.if-not-fields_fit.false in
-    rw (fits, sym c.named.ensures ∙ c.if-named.false) p.see_stage-v.ensures
+returns-else-named c = let fits = sym c.fields_fit.ensures ∙ c.if-not-fields_fit.false in
+    rw (fits, sym c.named.ensures ∙ c.if-named.false) c.see_stage-v.ensures

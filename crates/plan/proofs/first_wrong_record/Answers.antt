@@ -1,37 +1,33 @@
 use mathlib.Core.Path.{sym, ap}
-use Prim.Native.Nat.{◌-◌}
 use native.Mathlib.Omega.{arith}
-use Rattle.least.proofs.Where.{walk_start, walk_next, walk_found, walk_none}
+use Rattle.least.proofs.Where.{walk_next, walk_found, walk_none}
 use Rattle.plan.specs.PlanFile.{wrong_record, first_wrong_record}
 use Rattle.plan.specs.Refuse.{found_of}
 use Rattle.plan.proofs.Tests.{bad_mark, bad_spare, bad_last, good_record}
 use Rattle.plan.proofs.first_wrong_record.Goals as goal
 
-pub loop-r-init : goal.loop-r-init
-loop-r-init c = walk_start _ _
-
 pub returns-then-byte-gt1 : goal.returns-then-byte-gt1
 unfolding first_wrong_record
-returns-then-byte-gt1 c = let l = c in
-    let s = l.args.script.now in
-    ap found_of (sym (walk_found (wrong_record s) _ l.loop-r.r l.loop-r.invariant (omega arith) (bad_mark s l.loop-r.r (omega arith))))
+returns-then-byte-gt1 c =
+    let s = c.args.script.now in
+    ap found_of (sym (walk_found (wrong_record s) _ c.loop-r.r c.loop-r.invariant (omega arith) (bad_mark s c.loop-r.r (omega arith))))
 
 pub returns-then-byte-gt0 : goal.returns-then-byte-gt0
 unfolding first_wrong_record
-returns-then-byte-gt0 c = let l = c in
-    let s = l.args.script.now in
-    ap found_of (sym (walk_found (wrong_record s) _ l.loop-r.r l.loop-r.invariant (omega arith) (bad_spare s l.loop-r.r (omega arith))))
+returns-then-byte-gt0 c =
+    let s = c.args.script.now in
+    ap found_of (sym (walk_found (wrong_record s) _ c.loop-r.r c.loop-r.invariant (omega arith) (bad_spare s c.loop-r.r (omega arith))))
 
 pub returns-then-byte-gt0-2 : goal.returns-then-byte-gt0-2
 unfolding first_wrong_record
-returns-then-byte-gt0-2 c = let l = c in
-    let s = l.args.script.now in
-    ap found_of (sym (walk_found (wrong_record s) _ l.loop-r.r l.loop-r.invariant (omega arith) (bad_last s l.loop-r.r (omega arith))))
+returns-then-byte-gt0-2 c =
+    let s = c.args.script.now in
+    ap found_of (sym (walk_found (wrong_record s) _ c.loop-r.r c.loop-r.invariant (omega arith) (bad_last s c.loop-r.r (omega arith))))
 
 pub loop-r-preserved : goal.loop-r-preserved
-loop-r-preserved c = let l = c in
-    let s = l.args.script.now in
-    walk_next (wrong_record s) _ l.loop-r.r l.loop-r.invariant (omega arith) (good_record s l.loop-r.r (omega arith) (omega arith) (omega arith))
+loop-r-preserved c =
+    let s = c.args.script.now in
+    walk_next (wrong_record s) _ c.loop-r.r c.loop-r.invariant (omega arith) (good_record s c.loop-r.r (omega arith) (omega arith) (omega arith))
 
 pub returns : goal.returns
 unfolding first_wrong_record

@@ -1,14 +1,10 @@
 use mathlib.Core.Path.{ap, sym}
-use Prim.Native.Nat.{◌-◌}
 use native.Mathlib.Omega.{arith}
 use borrow.Author.Tests.{lt-ltb, le-ltb}
-use Rattle.least.proofs.Where.{walk_start, walk_next, walk_found, walk_none}
+use Rattle.least.proofs.Where.{walk_next, walk_found, walk_none}
 use Rattle.equations.specs.Analysis.{bad_deadline}
 use Rattle.analysis.specs.Loops.{place_of}
 use Rattle.analysis.proofs.checks.bad_deadline.Goals as goal
-
-pub loop-j-init : goal.loop-j-init
-loop-j-init c = walk_start _ _
 
 pub returns-then-period-deadline : goal.returns-then-period-deadline
 returns-then-period-deadline c = let s = c.args.table.now in

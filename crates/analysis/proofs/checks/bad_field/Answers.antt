@@ -1,14 +1,10 @@
 use mathlib.Core.Path.{refl, ap, sym}
-use Prim.Native.Nat.{◌-◌}
 use native.Mathlib.Omega.{arith}
-use Rattle.least.proofs.Where.{walk_start, walk_next, walk_found, walk_none}
+use Rattle.least.proofs.Where.{walk_next, walk_found, walk_none}
 use Rattle.equations.specs.Analysis.{bad_field}
 use Rattle.equations.proofs.Checks.{field_low, field_high, field_fine}
 use Rattle.analysis.specs.Loops.{place_of}
 use Rattle.analysis.proofs.checks.bad_field.Goals as goal
-
-pub loop-k-init : goal.loop-k-init
-loop-k-init c = (refl, walk_start (bad_field c.args.table.now) _)
 
 pub returns-then-x-lt1 : goal.returns-then-x-lt1
 returns-then-x-lt1 c = let s = c.args.table.now in

@@ -21,21 +21,21 @@ late_row c = place_some (first_where _ _ _) _ (sym c.in-Here-bad_deadline.is ∙
 
 pub returns-then-m-lt4 : goal.returns-then-m-lt4
 returns-then-m-lt4 c = record {
-      value = sym (too_short _ c.if-m-lt4.true);
-      sound = λ x. absurd (stopped_passed _ x);
-    }
+  value = sym (too_short _ c.if-m-lt4.true);
+  sound = λ x. absurd (stopped_passed _ x);
+}
 
 pub returns-then-m-gt128 : goal.returns-then-m-gt128
 returns-then-m-gt128 c = record {
-      value = sym (too_long _ c.if-m-gt128.true);
-      sound = λ x. absurd (stopped_passed _ x);
-    }
+  value = sym (too_long _ c.if-m-gt128.true);
+  sound = λ x. absurd (stopped_passed _ x);
+}
 
 pub returns-then-m-gt0 : goal.returns-then-m-gt0
 returns-then-m-gt0 c = record {
-      value = sym (not_in_fours _ c.if-m-gt0.true);
-      sound = λ x. absurd (stopped_passed _ x);
-    }
+  value = sym (not_in_fours _ c.if-m-gt0.true);
+  sound = λ x. absurd (stopped_passed _ x);
+}
 
 pub returns-in-Here : goal.returns-in-Here
 returns-in-Here c = let s = c.args.table.now in

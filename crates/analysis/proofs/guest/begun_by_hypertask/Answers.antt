@@ -4,12 +4,11 @@ use Rattle.analysis.proofs.Loops.{loads≤}
 use Rattle.analysis.proofs.guest.begun_by_hypertask.Goals as goal
 
 pub overflow_add-result : goal.overflow_add-result
-overflow_add-result c = let a = c in
-    let f = a.requires.0 in
+overflow_add-result c = let f = c.requires.0 in
     omega (
       arith,
-      loads≤ c.less-2.result a.args.t a.args.c f.some f.c≤ (omega arith),
-      loads≤ a.args.w a.args.t a.args.k f.some f.k≤ a.requires.1,
+      loads≤ c.less-2.result c.args.t c.args.c f.some f.c≤ (omega arith),
+      loads≤ c.args.w c.args.t c.args.k f.some f.k≤ c.requires.1,
     )
 
 pub returns : goal.returns

@@ -1,5 +1,3 @@
-use mathlib.Core.Path.{◌≡◌, ap, ◌∙◌}
-use Prim.Native.Nat.{◌-◌, ◌≤◌}
 use native.Mathlib.Omega.{arith}
 use Rattle.least.specs.Sums.{sum}
 use Rattle.least.proofs.Sums.{sum_step}
@@ -14,20 +12,14 @@ unfolding sum
 loop-j-init c = search rules
 
 pub overflow_add-total : goal.overflow_add-total
-overflow_add-total c = let a = c in
-    let s = a.args.table.now in
-    let e = offsets_in a.args.es.now in
+overflow_add-total c = let s = c.args.table.now in
+    let e = offsets_in c.args.es.now in
     let j = c.loop-j.j in
-    omega (arith, bounds≤ s a.requires.0 e a.args.w j (omega arith) a.requires.3, bound≤ s a.requires.0 e a.args.w j (omega arith) a.requires.3)
+    omega (arith, bounds≤ s c.requires.0 e c.args.w j (omega arith) c.requires.3, bound≤ s c.requires.0 e c.args.w j (omega arith) c.requires.3)
 
 pub loop-j-preserved : goal.loop-j-preserved
-loop-j-preserved c = let a = c in (
-      omega arith,
-      sum_step (bound a.args.table.now (offsets_in a.args.es.now) a.args.w) _ _ _ c.loop-j.invariant.1
-          c.bound_of-total.ensures,
-    )
-
-pub returns : goal.returns
-returns c = let a = c in
-    let e : c.loop-j.j ≡ a.args.i = omega arith in
-    c.loop-j.invariant.1 ∙ ap (sum (bound a.args.table.now (offsets_in a.args.es.now) a.args.w)) e
+loop-j-preserved c = (
+  omega arith,
+  sum_step (bound c.args.table.now (offsets_in c.args.es.now) c.args.w) _ _ _ c.loop-j.invariant.1
+      c.bound_of-total.ensures,
+)

@@ -17,24 +17,20 @@ guest_begins : (c : In-At) → WA c.args.table.now
 guest_begins c = found_some (WA _ _) _ (sym c.in-At.is ∙ c.window_begun_by_guest.ensures)
 
 pub returns-in_default : goal.returns-in_default
-returns-in_default c = let a = c in
-    let s = a.args.table.now in
-    sym (guest_7 s a.args.i (found_none (WA s a.args.i) (sym c.in_default.is ∙ c.window_begun_by_guest.ensures)))
+returns-in_default c = let s = c.args.table.now in
+    sym (guest_7 s c.args.i (found_none (WA s c.args.i) (sym c.in_default.is ∙ c.window_begun_by_guest.ensures)))
 
 pub returns-in_default-window_begun_by_hypertask : goal.returns-in_default-window_begun_by_hypertask
-returns-in_default-window_begun_by_hypertask c = let a = c in
-    let s = a.args.table.now in
-    let i = a.args.i in
+returns-in_default-window_begun_by_hypertask c = let s = c.args.table.now in
+    let i = c.args.i in
     sym (guest_19 s i _ (guest_begins (goal.at.returns-in_default-window_begun_by_hypertask c).In-At) (found_none (WE s i) (sym c.in_default-window_begun_by_hypertask.is
     ∙ c.window_begun_by_hypertask.ensures)))
 
 pub returns : goal.returns
-returns c = let a = c in
-    let s = a.args.table.now in
-    let i = a.args.i in
-    let at-e = c in
-    let e = at-e.in-At-window_begun_by_hypertask.e in
-    let we : WE s i ≡ some e = found_some (WE s i) _ (sym at-e.in-At-window_begun_by_hypertask.is ∙ at-e.window_begun_by_hypertask.ensures) in
-    let o : c.cell-2.result ≡ E s i = c.cell-2.ensures ∙ a.requires.1.at i a.requires.2 in
-    let m : c.larger.result ≡ max at-e.in-At.a (e - (T s i - E s i)) = omega arith in
-    ap Is m ∙ sym (guest_is s i _ _ (guest_begins at-e) we)
+returns c = let s = c.args.table.now in
+    let i = c.args.i in
+    let e = c.in-At-window_begun_by_hypertask.e in
+    let we : WE s i ≡ some e = found_some (WE s i) _ (sym c.in-At-window_begun_by_hypertask.is ∙ c.window_begun_by_hypertask.ensures) in
+    let o : c.cell-2.result ≡ E s i = c.cell-2.ensures ∙ c.requires.1.at i c.requires.2 in
+    let m : c.larger.result ≡ max c.in-At.a (e - (T s i - E s i)) = omega arith in
+    ap Is m ∙ sym (guest_is s i _ _ (guest_begins (goal.at.returns c).In-At) we)

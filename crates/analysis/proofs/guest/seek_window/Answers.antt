@@ -20,21 +20,18 @@ pub returns-then-last-eq0 : goal.returns-then-last-eq0
 returns-then-last-eq0 c = sought_none _ 1 _ c.if-last-eq0.true
 
 pub loop-w-init : goal.loop-w-init
-loop-w-init c = let a = c in
-    seek_start _ 1 _ (omega arith) (rises a.args.table.now (offsets_in a.args.es.now) a.args.i a.args.own a.requires.3)
+loop-w-init c = seek_start _ 1 _ (omega arith) (rises c.args.table.now (offsets_in c.args.es.now) c.args.i c.args.own c.requires.3)
 
 pub returns-then-next-w : goal.returns-then-next-w
 returns-then-next-w c = sought _ 1 _ _ _ (upto _) (seek_hit _ 1 _ _ _ c.loop-w.invariant c.window_side-next.ensures c.if-next-w.true)
 
 pub returns-then-last-next : goal.returns-then-last-next
-returns-then-last-next c = let a = c in
-    let m = window_never_falls a.args.table.now (offsets_in a.args.es.now) a.args.i a.args.own in
+returns-then-last-next c = let m = window_never_falls c.args.table.now (offsets_in c.args.es.now) c.args.i c.args.own in
     sought _ 1 _ _ _ (upto _) (seek_past _ m 1 _ _ _ c.loop-w.invariant c.window_side-next.ensures (omega (
       arith,
       c.if-last-next.true,
     )))
 
 pub loop-w-preserved : goal.loop-w-preserved
-loop-w-preserved c = let a = c in
-    let m = window_never_falls a.args.table.now (offsets_in a.args.es.now) a.args.i a.args.own in
+loop-w-preserved c = let m = window_never_falls c.args.table.now (offsets_in c.args.es.now) c.args.i c.args.own in
     seek_next _ m 1 _ _ _ c.loop-w.invariant c.window_side-next.ensures (omega (arith, c.if-last-next.false))

@@ -8,22 +8,20 @@ use Rattle.analysis.proofs.Loops.{window_is}
 use Rattle.analysis.proofs.guest.window_begun_by_guest.Goals as goal
 
 pub seek_window-requires : goal.seek_window-requires
-seek_window-requires c = let a = c in
-    let s = a.args.table.now in
-    let i = a.args.i in
-    let e : c.cell-2.result ≡ E s i = c.cell-2.ensures ∙ a.requires.1.at i a.requires.2 in (
-      a.requires.0,
-      a.requires.1.long,
-      a.requires.2,
-      omega (arith, C≥1 s a.requires.0 i a.requires.2),
-      omega (arith, C≤ s a.requires.0 i a.requires.2),
-      omega (arith, E≤D s i, D≤ s a.requires.0 i a.requires.2),
+seek_window-requires c = let s = c.args.table.now in
+    let i = c.args.i in
+    let e : c.cell-2.result ≡ E s i = c.cell-2.ensures ∙ c.requires.1.at i c.requires.2 in (
+      c.requires.0,
+      c.requires.1.long,
+      c.requires.2,
+      omega (arith, C≥1 s c.requires.0 i c.requires.2),
+      omega (arith, C≤ s c.requires.0 i c.requires.2),
+      omega (arith, E≤D s i, D≤ s c.requires.0 i c.requires.2),
     )
 
 pub returns : goal.returns
 unfolding WA
-returns c = let a = c in
-    let s = a.args.table.now in
-    let i = a.args.i in
-    let e : c.cell-2.result ≡ E s i = c.cell-2.ensures ∙ a.requires.1.at i a.requires.2 in
-    c.seek_window.ensures ∙ ap found_of (window_is s a.args.es.now i _ _ _ _ a.requires.1 a.requires.2 c.cell.ensures e)
+returns c = let s = c.args.table.now in
+    let i = c.args.i in
+    let e : c.cell-2.result ≡ E s i = c.cell-2.ensures ∙ c.requires.1.at i c.requires.2 in
+    c.seek_window.ensures ∙ ap found_of (window_is s c.args.es.now i _ _ _ _ c.requires.1 c.requires.2 c.cell.ensures e)

@@ -13,12 +13,10 @@ unfolding largest
 loop-k-init c = search rules
 
 pub loop-k-preserved : goal.loop-k-preserved
-loop-k-preserved c = let a = c in
-    let k = c.loop-k.k in
-    omega (arith, largest_suc (λ (x : ℕ). K a.args.table.now (a.args.i + 1 + x)) k)
+loop-k-preserved c = let k = c.loop-k.k in
+    omega (arith, largest_suc (λ (x : ℕ). K c.args.table.now (c.args.i + 1 + x)) k)
 
 pub returns : goal.returns
 unfolding B
-returns c = let a = c in
-    let e : c.loop-k.k ≡ rows a.args.table.now - (a.args.i + 1) = omega arith in
+returns c = let e : c.loop-k.k ≡ rows c.args.table.now - (c.args.i + 1) = omega arith in
     c.loop-k.invariant.1 ∙ ap (largest _) e

@@ -1,5 +1,3 @@
-use mathlib.Core.Path.{◌≡◌, ap, ◌∙◌}
-use Prim.Native.Nat.{◌-◌, ◌≤◌}
 use native.Mathlib.Omega.{arith}
 use Rattle.least.specs.Sums.{sum}
 use Rattle.least.proofs.Sums.{sum_step}
@@ -13,15 +11,9 @@ unfolding sum
 loop-j-init c = search rules
 
 pub overflow_add-total : goal.overflow_add-total
-overflow_add-total c = let a = c in
-    let s = a.args.table.now in
+overflow_add-total c = let s = c.args.table.now in
     let j = c.loop-j.j in
-    omega (arith, demands≤ s a.requires.0 a.args.t j (omega arith) a.requires.2, demand≤ s a.requires.0 a.args.t j (omega arith) a.requires.2)
+    omega (arith, demands≤ s c.requires.0 c.args.t j (omega arith) c.requires.2, demand≤ s c.requires.0 c.args.t j (omega arith) c.requires.2)
 
 pub loop-j-preserved : goal.loop-j-preserved
-loop-j-preserved c = let a = c in
-    (omega arith, sum_step (demand a.args.table.now a.args.t) _ _ _ c.loop-j.invariant.1 c.demand_of-total.ensures)
-
-pub returns : goal.returns
-returns c = let e : c.loop-j.j ≡ c.args.i = omega arith in
-    c.loop-j.invariant.1 ∙ ap (sum (demand _ _)) e
+loop-j-preserved c = (omega arith, sum_step (demand c.args.table.now c.args.t) _ _ _ c.loop-j.invariant.1 c.demand_of-total.ensures)

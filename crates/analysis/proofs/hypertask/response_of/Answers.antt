@@ -22,41 +22,34 @@ jobs : (c : After-rounded_up-jobs) → c.rounded_up-jobs.result ≡ up c.in-At.t
 jobs c = c.rounded_up-jobs.ensures ∙ ap (up _) c.cell.ensures
 
 pub returns-in_default : goal.returns-in_default
-returns-in_default c = let a = c in
-    let s = a.args.table.now in
-    sym (response_5 s a.args.i (found_none (active_period s a.args.i) (sym c.in_default.is ∙ c.active_period.ensures)))
+returns-in_default c = let s = c.args.table.now in
+    sym (response_5 s c.args.i (found_none (active_period s c.args.i) (sym c.in_default.is ∙ c.active_period.ensures)))
 
 pub rounded_up-jobs-requires : goal.rounded_up-jobs-requires
-rounded_up-jobs-requires c = let a = c in
-    let s = a.args.table.now in
-    omega (arith, active≤ s a.args.i _ (period (goal.at.rounded_up-jobs-requires c).In-At), T≥1 s a.requires.0 a.args.i a.requires.1, T≤ s a.requires.0 a.args.i a.requires.1)
+rounded_up-jobs-requires c = let s = c.args.table.now in
+    omega (arith, active≤ s c.args.i _ (period (goal.at.rounded_up-jobs-requires c).In-At), T≥1 s c.requires.0 c.args.i c.requires.1, T≤ s c.requires.0 c.args.i c.requires.1)
 
 pub worst_of-requires : goal.worst_of-requires
-worst_of-requires c = let a = c in
-    let s = a.args.table.now in
+worst_of-requires c = let s = c.args.table.now in
     let t = c.in-At.t in (
-      a.requires.0,
-      a.requires.1,
+      c.requires.0,
+      c.requires.1,
       c.blocking-b.ensures,
       rw (jobs (goal.at.worst_of-requires c).After-rounded_up-jobs) (omega (
         arith,
-        up_mul≤ t (T s a.args.i),
-        active≤ s a.args.i t (period (goal.at.worst_of-requires c).In-At),
+        up_mul≤ t (T s c.args.i),
+        active≤ s c.args.i t (period (goal.at.worst_of-requires c).In-At),
       )),
     )
 
 pub returns-in_default-worst_of : goal.returns-in_default-worst_of
-returns-in_default-worst_of c = let at = c in
-    let a = at in
-    let s = a.args.table.now in
-    let i = a.args.i in
-    sym (response_6 s i _ (period at) (ap (worst s i) (sym (jobs at)) ∙ found_none (worst s i _) (sym c.in_default-worst_of.is
+returns-in_default-worst_of c = let s = c.args.table.now in
+    let i = c.args.i in
+    sym (response_6 s i _ (period (goal.at.returns-in_default-worst_of c).In-At) (ap (worst s i) (sym (jobs (goal.at.returns-in_default-worst_of c).After-rounded_up-jobs)) ∙ found_none (worst s i _) (sym c.in_default-worst_of.is
     ∙ c.worst_of.ensures)))
 
 pub returns : goal.returns
-returns c = let at = c in
-    let a = at in
-    let s = a.args.table.now in
-    let i = a.args.i in
-    sym (response_is s i _ _ (period at) (ap (worst s i) (sym (jobs at))
+returns c = let s = c.args.table.now in
+    let i = c.args.i in
+    sym (response_is s i _ _ (period (goal.at.returns c).In-At) (ap (worst s i) (sym (jobs (goal.at.returns c).After-rounded_up-jobs))
     ∙ found_some (worst s i _) _ (sym c.in-At-worst_of.is ∙ c.worst_of.ensures)))

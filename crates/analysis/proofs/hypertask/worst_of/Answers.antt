@@ -1,10 +1,9 @@
 use mathlib.Core.Path.{◌≡◌, ap, sym, ◌∙◌}
 use mathlib.Core.Option.{some}
-use Prim.Native.Nat.{suc, ◌-◌}
+use Prim.Native.Nat.{suc}
 use native.Mathlib.Omega.{arith}
-use Rattle.equations.specs.Table.{T}
 use Rattle.equations.specs.Hypertask.{job_response, worst}
-use Rattle.equations.proofs.Jobs.{job_begins, worst_more, worst_none}
+use Rattle.equations.proofs.Jobs.{worst_more, worst_none}
 use Rattle.analysis.specs.Loops.{found_of}
 use Rattle.analysis.proofs.Loops.{found_some, found_none}
 use borrow.Author.Rules.{rules}
@@ -14,29 +13,13 @@ pub loop-before-init : goal.loop-before-init
 unfolding worst
 loop-before-init c = search rules
 
-pub response_after-requires : goal.response_after-requires
-response_after-requires c = let a = c in (
-      a.requires.0,
-      a.requires.1,
-      a.requires.2,
-      job_begins c.loop-before a.args.n (T a.args.table.now a.args.i)
-          c.loop-before-test.true a.requires.3,
-    )
-
 pub returns-in_default : goal.returns-in_default
-returns-in_default c = let a = c in
-    ap found_of (sym (worst_none _ _ c.loop-before a.args.n c.loop-before-test.true
+returns-in_default c = ap found_of (sym (worst_none _ _ c.loop-before.before c.args.n c.loop-before-test.true
     (found_none _ (sym c.in_default.is ∙ c.response_after.ensures))))
 
 pub loop-before-preserved : goal.loop-before-preserved
-loop-before-preserved c = let a = c in
-    let l = c.loop-before in
+loop-before-preserved c = let l = c.loop-before in
     let r = c.in-At.r in
-    let f : job_response a.args.table.now a.args.i (suc l) ≡ some r = found_some _ _ (sym c.in-At.is
+    let f : job_response c.args.table.now c.args.i (suc l.before) ≡ some r = found_some _ _ (sym c.in-At.is
     ∙ c.response_after.ensures) in
-    (omega arith, worst_more _ _ l l.most r l.invariant.1 f ∙ ap some (sym c.larger-most.ensures))
-
-pub returns : goal.returns
-returns c = let a = c in
-    let e : c.loop-before ≡ a.args.n = omega arith in
-    ap found_of (sym c.loop-before.invariant.1 ∙ ap (worst a.args.table.now a.args.i) e)
+    (omega arith, worst_more _ _ l.before l.most r l.invariant.1 f ∙ ap some (sym c.larger-most.ensures))

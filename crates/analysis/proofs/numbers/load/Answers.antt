@@ -11,8 +11,4 @@ value : (c : After-rounded_up)
 value c = ap (λ (x : ℕ). x * c.args.ticks) c.rounded_up.ensures
 
 pub overflow_mul-result : goal.overflow_mul-result
-overflow_mul-result c = let a = c in
-    omega (arith, value (goal.at.overflow_mul-result c).After-rounded_up, loads≤ a.args.w a.args.period a.args.ticks a.requires.0 a.requires.2 a.requires.3)
-
-pub returns : goal.returns
-returns c = value (goal.at.returns c).After-rounded_up
+overflow_mul-result c = omega (arith, value (goal.at.overflow_mul-result c).After-rounded_up, loads≤ c.args.w c.args.period c.args.ticks c.requires.0 c.requires.2 c.requires.3)

@@ -1,5 +1,4 @@
 use mathlib.Core.Path.{◌≡◌, sym, ◌∙◌}
-use Prim.Native.Nat.{◌-◌}
 use native.Mathlib.Omega.{arith}
 use Rattle.equations.specs.Table.{rows}
 use Rattle.equations.specs.Guest.{guest}
@@ -7,18 +6,15 @@ use Rattle.equations.specs.Analysis.{guest_check}
 use Rattle.equations.specs.declared.Response.TheVariants.{Is}
 use Rattle.equations.proofs.Bounds.{T≤, D≤, E≤D}
 use Rattle.equations.proofs.Jobs.{guest≤}
-use Rattle.equations.proofs.Checks.{stopped_passed, rows_start, rows_stop, rows_next, rows_end}
-use Rattle.analysis.proofs.Loops.{guests_none, guests_more}
+use Rattle.equations.proofs.Checks.{stopped_passed, rows_stop, rows_next, rows_end}
+use Rattle.analysis.proofs.Loops.{guests_more}
 use Rattle.analysis.proofs.results.guests.Goals.{In-Is}
 use Rattle.analysis.proofs.results.guests.Goals as goal
 
 -- the response that was found
-found : (c : In-Is invariant_loop decreases_loop) → guest c.args.table.now
+found : (c : In-Is) → guest c.args.table.now
     c.loop-i.i ≡ Is c.in-Is.g
 found c = sym c.guest_of.ensures ∙ c.in-Is.is
-
-pub loop-i-init : goal.loop-i-init
-loop-i-init c = (rows_start _ _, guests_none _ _ c.requires.2)
 
 pub returns-in-Fails : goal.returns-in-Fails
 unfolding guest_check
@@ -31,16 +27,14 @@ returns-in-Fails c = let s = c.args.table.now in
     }
 
 pub overflow_cast-gs : goal.overflow_cast-gs
-overflow_cast-gs c = let a = c in
-    let s = a.args.table.now in
+overflow_cast-gs c = let s = c.args.table.now in
     let i = c.loop-i.i in
-    omega (arith, guest≤ s i _ (found c), E≤D s i, D≤ s a.requires.0 i (omega arith), T≤ s a.requires.0 i (omega arith))
+    omega (arith, guest≤ s i _ (found (goal.at.overflow_cast-gs c).In-Is), E≤D s i, D≤ s c.requires.0 i (omega arith), T≤ s c.requires.0 i (omega arith))
 
 pub loop-i-preserved : goal.loop-i-preserved
-loop-i-preserved c = let a = c in
-    let s = a.args.table.now in
+loop-i-preserved c = let s = c.args.table.now in
     let l = c.loop-i in
-    (rows_next (guest s) _ l.i _ l.invariant.0 (omega arith) (found c), guests_more s l.gs l.i _ l.invariant.1 (omega arith) (found c))
+    (rows_next (guest s) _ l.i _ l.invariant.0 (omega arith) (found (goal.at.loop-i-preserved c).In-Is), guests_more s l.gs l.i _ l.invariant.1 (omega arith) (found (goal.at.loop-i-preserved c).In-Is))
 
 pub returns : goal.returns
 unfolding guest_check

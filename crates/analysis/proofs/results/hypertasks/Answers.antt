@@ -1,5 +1,4 @@
 use mathlib.Core.Path.{◌≡◌, sym, ◌∙◌}
-use Prim.Native.Nat.{◌-◌}
 use native.Mathlib.Omega.{arith}
 use Rattle.equations.specs.Table.{rows}
 use Rattle.equations.specs.Hypertask.{response}
@@ -7,18 +6,15 @@ use Rattle.equations.specs.Analysis.{hypertask_check}
 use Rattle.equations.specs.declared.Response.TheVariants.{Is}
 use Rattle.equations.proofs.Bounds.{D≤}
 use Rattle.equations.proofs.Jobs.{response≤}
-use Rattle.equations.proofs.Checks.{stopped_passed, rows_start, rows_stop, rows_next, rows_end}
-use Rattle.analysis.proofs.Loops.{filled_none, filled_more}
+use Rattle.equations.proofs.Checks.{stopped_passed, rows_stop, rows_next, rows_end}
+use Rattle.analysis.proofs.Loops.{filled_more}
 use Rattle.analysis.proofs.results.hypertasks.Goals.{In-Is}
 use Rattle.analysis.proofs.results.hypertasks.Goals as goal
 
 -- the response that was found
-found : (c : In-Is invariant_loop decreases_loop) → response c.args.table.now
+found : (c : In-Is) → response c.args.table.now
     c.loop-i.i ≡ Is c.in-Is.r
 found c = sym c.response_of.ensures ∙ c.in-Is.is
-
-pub loop-i-init : goal.loop-i-init
-loop-i-init c = let a = c in (rows_start _ _, filled_none a.args.table.now _ _ a.requires.1 a.requires.2)
 
 pub returns-in-Fails : goal.returns-in-Fails
 unfolding hypertask_check
@@ -31,24 +27,18 @@ returns-in-Fails c = let s = c.args.table.now in
     }
 
 pub overflow_cast-rs : goal.overflow_cast-rs
-overflow_cast-rs c = let a = c in
-    let s = a.args.table.now in
+overflow_cast-rs c = let s = c.args.table.now in
     let i = c.loop-i.i in
-    omega (arith, response≤ s i _ (found c), D≤ s a.requires.0 i (omega arith))
+    omega (arith, response≤ s i _ (found (goal.at.overflow_cast-rs c).In-Is), D≤ s c.requires.0 i (omega arith))
 
 pub overflow_sub-es : goal.overflow_sub-es
 overflow_sub-es c = let s = c.args.table.now in
-    omega (arith, response≤ s c.loop-i.i _ (found c))
-
-pub overflow_cast-es : goal.overflow_cast-es
-overflow_cast-es c = let a = c in
-    omega (arith, D≤ a.args.table.now a.requires.0 c.loop-i.i (omega arith))
+    omega (arith, response≤ s c.loop-i.i _ (found (goal.at.overflow_sub-es c).In-Is))
 
 pub loop-i-preserved : goal.loop-i-preserved
-loop-i-preserved c = let a = c in
-    let s = a.args.table.now in
+loop-i-preserved c = let s = c.args.table.now in
     let l = c.loop-i in
-    let f = found c in
+    let f = found (goal.at.loop-i-preserved c).In-Is in
     (rows_next (response s) _ l.i _ l.invariant.0 (omega arith) f, rw c.cell-d.ensures (filled_more s l.rs l.es l.i _ l.invariant.1 (omega arith) f))
 
 pub returns : goal.returns

@@ -1,8 +1,5 @@
-use mathlib.Core.Path.{◌≡◌, refl, ap, ◌∙◌}
-use mathlib.Core.List.{◌++◌}
-use Prim.Native.Nat.{ℕ, ◌-◌, ◌*◌}
+use mathlib.Core.Path.{refl, ◌∙◌}
 use native.Mathlib.Omega.{arith}
-use lib.ListN.{drop}
 use Rattle.least.specs.Lists.{flat}
 use Rattle.analysis.specs.Loops.{three_in}
 use Rattle.least.proofs.Lists.{block_more}
@@ -13,14 +10,8 @@ unfolding flat
 loop-i-init c = (omega arith, refl, refl)
 
 pub loop-i-preserved : goal.loop-i-preserved
-loop-i-preserved c = let a = c in
-    let l = c.loop-i in (
-      omega arith,
-      c.put_three.ensures ∙ block_more (three_in a.args.rs.now a.args.es.now a.args.gs.now) 3 (λ k. refl) a.args.lent.now l.lent l.i l.invariant.1,
-      omega arith,
-    )
-
-pub returns : goal.returns
-returns c = let a = c in
-    let e : c.loop-i.i ≡ a.args.n = omega arith in
-    c.loop-i.invariant.1 ∙ ap (λ (x : ℕ). flat (three_in a.args.rs.now a.args.es.now a.args.gs.now) x ++ drop (3 * x) a.args.lent.now) e
+loop-i-preserved c = let l = c.loop-i in (
+  omega arith,
+  c.put_three.ensures ∙ block_more (three_in c.args.rs.now c.args.es.now c.args.gs.now) 3 (λ k. refl) c.args.lent.now l.lent l.i l.invariant.1,
+  omega arith,
+)

@@ -1,6 +1,6 @@
 use mathlib.Core.List.{List, ◌++◌}
-use mathlib.Core.Path.{◌≡◌, refl, ap, ◌∙◌}
-use Prim.Native.Nat.{ℕ, ◌-◌}
+use mathlib.Core.Path.{refl, ap, ◌∙◌}
+use Prim.Native.Nat.{ℕ}
 use native.Mathlib.Omega.{arith}
 use lib.ListN.{drop, set, length-set}
 use Rattle.least.specs.Lists.{list_of}
@@ -13,7 +13,8 @@ unfolding list_of
 loop-i-init c = (omega arith, refl, refl)
 
 pub loop-i-preserved : goal.loop-i-preserved
-loop-i-preserved c = let l = c.loop-i in
+loop-i-preserved c =
+    let l = c.loop-i in
     let a = c.args in (
       omega arith,
       ap (λ (x : List ℕ). set x l.i c.number_32.result) l.invariant.1
@@ -21,8 +22,3 @@ loop-i-preserved c = let l = c.loop-i in
           ∙ numbers_step a.rows.now a.table.now l.i (omega arith),
       length-set l.table l.i c.number_32.result ∙ l.invariant.2,
     )
-
-pub returns : goal.returns
-returns c = let a = c.args in
-    let e : c.loop-i.i ≡ a.n = omega arith in
-    c.loop-i.invariant.1 ∙ ap (λ (x : ℕ). numbers_in a.rows.now x ++ drop x a.table.now) e

@@ -1,3 +1,4 @@
+-- One arm for each question: the test on the entry that was read is the question. Assumes nothing.
 use mathlib.Core.Path.{ap, ◌∙◌}
 use Prim.Native.Nat.{ℕ, ◌+◌}
 use lib.ListN.{length}
@@ -9,25 +10,21 @@ use Rattle.plan.proofs.reader.is_so.Goals as goal
 
 pub returns-in-WrongKind : goal.returns-in-WrongKind
 unfolding asked
-returns-in-WrongKind c = let s = c in
-    rw c.in-WrongKind.is
-    (c.wrong_kind.ensures ∙ ap (λ (e : Entry). wrong_kind s.args.i e.kind) s.entry-e.ensures.0)
+returns-in-WrongKind c = rw c.in-WrongKind.is
+    (c.wrong_kind.ensures ∙ ap (λ (e : Entry). wrong_kind c.args.i e.kind) c.entry-e.ensures.0)
 
 pub returns-in-WrongPlace : goal.returns-in-WrongPlace
 unfolding asked
-returns-in-WrongPlace c = let s = c in
-    let a = s in
-    rw c.in-WrongPlace.is
+returns-in-WrongPlace c = rw c.in-WrongPlace.is
     (c.wrong_place.ensures
-    ∙ same3 (λ (x : ℕ) (n : ℕ) (e : Entry). wrong_place x (eqb (a.args.i + 1) n) (length a.args.file.now) e)
+    ∙ same3 (λ (x : ℕ) (n : ℕ) (e : Entry). wrong_place x (eqb (c.args.i + 1) n) (length c.args.file.now) e)
     c.start_at.ensures
     c.number.ensures.0
-    s.entry-e.ensures.0)
+    c.entry-e.ensures.0)
 
 pub returns-in-WrongSize : goal.returns-in-WrongSize
 unfolding asked
-returns-in-WrongSize c = let s = c in
-    rw c.in-WrongSize.is (c.wrong_size.ensures ∙ ap (λ (e : Entry). wrong_size e.kind e.length) s.entry-e.ensures.0)
+returns-in-WrongSize c = rw c.in-WrongSize.is (c.wrong_size.ensures ∙ ap (λ (e : Entry). wrong_size e.kind e.length) c.entry-e.ensures.0)
 
 pub returns-in-OfKind : goal.returns-in-OfKind
 unfolding asked

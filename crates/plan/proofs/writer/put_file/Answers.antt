@@ -1,3 +1,4 @@
+-- The contents, the rows and the script, one after the other, are the file. Assumes nothing.
 use mathlib.Core.Path.{sym, ap, ◌∙◌}
 use Prim.Native.Nat.{◌+◌, ◌*◌}
 use native.Mathlib.Omega.{arith}
@@ -11,16 +12,13 @@ use Rattle.plan.proofs.Digits.{table_length}
 use Rattle.plan.proofs.writer.put_file.Goals as goal
 
 pub returns : goal.returns
-returns c = let p3 = c in
-    let p2 = p3 in
-    let p1 = p2 in
-    let n = p1 in
-    let a = n.args in
+returns c =
+    let a = c.args in
     let t = a.table.now in
     let s = a.script.now in
-    let x = n.section_count.result in
-    three_pieces a.output-1.now 0 (4 + 12 * x) (4 + 12 * x + 4 * length t) (head_bytes (length t) (length s)) (table_bytes t) s
-    p1.put_contents.ensures p2.put_table.ensures p3.put_script.ensures
-    (omega (arith, head_length (length t) (length s), n.section_count.ensures.0))
+    let x = c.section_count.result in
+    three_pieces a.output.now 0 (4 + 12 * x) (4 + 12 * x + 4 * length t) (head_bytes (length t) (length s)) (table_bytes t) s
+    c.put_contents.ensures c.put_table.ensures c.put_script.ensures
+    (omega (arith, head_length (length t) (length s), c.section_count.ensures.0))
     (omega (arith, table_length t))
-    ∙ ap (sets a.output-1.now 0) (sym (plan_bytes t s))
+    ∙ ap (sets a.output.now 0) (sym (plan_bytes t s))

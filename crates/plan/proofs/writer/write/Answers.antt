@@ -1,37 +1,31 @@
-use mathlib.Core.Option.{none, some}
+-- Refused, nothing was put; accepted, the whole file was, at the front. Assumes nothing.
+use mathlib.Core.Option.{none}
 use mathlib.Core.Path.{◌≡◌, sym, ◌∙◌}
 use native.Mathlib.Omega.{arith}
 use lib.ListN.{length}
 use Rattle.plan.specs.Writer.{write_refusal}
-use Rattle.plan.proofs.Written.{allowed, plan_length, nothing_written, file_written}
-use Rattle.plan.proofs.Tests.{answer_some, answer_none}
-use Rattle.plan.proofs.writer.write.Lts as lts
+use Rattle.plan.proofs.Written.{allowed, plan_length, file_written}
+use Rattle.plan.proofs.Tests.{answer_none}
+use Rattle.plan.proofs.writer.write.Goals.{In_default}
 use Rattle.plan.proofs.writer.write.Goals as goal
 
-accepted : (c : lts.In_default)
-    → write_refusal
-    c.args.table.now
-    c.args.script.now
-    (length c.args.output.now)
-    ≡ none
+accepted : (c : In_default)
+    → write_refusal c.args.table.now c.args.script.now (length c.args.output.now) ≡ none
 accepted c = answer_none _ (sym c.in_default.is ∙ c.check_write.ensures)
 
-pub returns-in-Refused : goal.returns-in-Refused
-returns-in-Refused c = let w = c in
-    let a = w.args in
-    nothing_written a.table.now a.script.now a.output-1.now _ (answer_some _ _ (sym c.in-Refused.is ∙ w.check_write.ensures))
-
 pub put_file-requires : goal.put_file-requires
-put_file-requires c = let a = c.args in
-    let h = allowed a.table.now a.script.now (length a.output-1.now) (accepted c) in
+put_file-requires c =
+    let a = c.args in
+    let h = allowed a.table.now a.script.now (length a.output.now) (accepted (goal.at.put_file-requires c).In_default) in
     (h.some, h.few, omega (arith, h.fits, plan_length a.table.now a.script.now))
 
 pub file_length-requires : goal.file_length-requires
-file_length-requires c = let w = c in
-    let a = w in
-    omega (arith, (allowed a.args.table.now a.args.script.now (length a.args.output.now) (accepted w)).few, a.well_formed)
+file_length-requires c =
+    let a = c.args in
+    let h = allowed a.table.now a.script.now (length a.output.now) (accepted (goal.at.file_length-requires c).In_default) in
+    omega (arith, h.few, c.well_formed)
 
 pub returns : goal.returns
-returns c = let w = c in
-    let a = w.args in
-    file_written a.table.now a.script.now a.output-1.now _ _ (accepted w) c.file_length_lem.ensures c.put_file.ensures
+returns c =
+    let a = c.args in
+    file_written a.table.now a.script.now a.output.now _ _ (accepted (goal.at.returns c).In_default) c.file_length.ensures c.put_file.ensures

@@ -1,0 +1,10 @@
+use Rattle.text.proofs.Laws.{put_then}
+use native.Mathlib.Omega.{arith}
+use borrow.Author.Rules.{rules}
+use Rattle.text.proofs.lines.put_tick.Goals as goal
+
+pub returns : goal.returns
+returns c = record {
+  puts = search (rules, put_then);
+  short = omega arith;
+}
