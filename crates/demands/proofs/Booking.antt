@@ -21,7 +21,7 @@ use Rattle.machine.specs.declared.Taken.{Taken}
 use Rattle.machine.specs.declared.Machine.{Machine}
 use Rattle.machine.specs.declared.Answer.{Answer}
 use Rattle.machine.specs.Rows.{with_stage, in_mask, Found, at, none, is_hyper, has_budget}
-use Rattle.machine.specs.TickRule.{Verdict, refused, accepted, verdict, turned, chosen, ran_from, nobody_ran, ran_on, taken, step_by, step_of}
+use Rattle.machine.specs.TickRule.{Verdict, refused, accepted, verdict, chosen, ran_from, nobody_ran, ran_on, taken, step_by, step_of}
 use Rattle.machine.specs.Fresh.{fresh_at}
 use Rattle.machine.proofs.Choice.{turned_length, chosen_runs}
 use Rattle.start.specs.Start.{row_of, rows_of, start_answer, start_of}

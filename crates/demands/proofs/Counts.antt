@@ -12,7 +12,6 @@ use lib.ListN.{length}
 use borrow.Author.Tests.{eqb-true, eqb-false, eq-eqb, ne_eqb}
 use Rattle.least.specs.Sums.{sum}
 use Rattle.least.proofs.Sums.{sum_same}
-use Rattle.equations.specs.Table.{rows}
 use Rattle.equations.specs.declared.Answer.TheVariants.{Accepted}
 use Rattle.machine.specs.declared.Stage.{Stage}
 use Rattle.machine.specs.declared.Row.{Row}

@@ -17,7 +17,6 @@ use Rattle.machine.specs.TickRule.{step_of}
 use Rattle.machine.specs.declared.Machine.{Machine}
 use Rattle.machine.specs.declared.Ran.{Ran}
 use Rattle.machine.specs.declared.Mark.{Mark}
-use Rattle.machine.specs.declared.Taken.{Taken}
 use Rattle.machine.specs.declared.Answer.{Answer}
 use Rattle.machine.proofs.Mask.{empty_mask}
 use Rattle.demands.specs.Runs.{Tick, TakenTick, Run, taken_by, after, run}

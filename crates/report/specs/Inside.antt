@@ -4,7 +4,6 @@ use Rattle.machine.specs.Rows.{in_mask}
 use Rattle.machine.specs.declared.Machine.{Machine}
 use Rattle.machine.specs.declared.Ran.{Ran}
 use Rattle.machine.specs.declared.Mark.{Mark}
-use Rattle.machine.specs.declared.Taken.{Taken}
 use Rattle.machine.specs.declared.Answer.{Answer}
 use Rattle.demands.specs.Runs.{Tick, TakenTick, run}
 use Rattle.demands.specs.Jobs.{one, jobs_arrived, guest_outputs_of, hypertask_outputs_of, jobs_open}

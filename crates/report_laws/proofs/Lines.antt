@@ -7,7 +7,6 @@ use lib.ListN.{length, length-append}
 use Rattle.refusals.specs.declared.Refusal.{Refusal}
 use Rattle.refusals.specs.Refusals.{number_of, place_of}
 use Rattle.machine.specs.declared.Ran.{Ran}
-use Rattle.machine.specs.declared.Taken.{Taken}
 use Rattle.machine.specs.declared.Answer.{Answer}
 use Rattle.text.specs.Put.{digits_of, spaced, last_place}
 use Rattle.text.specs.Lines.{word_line, accept_word, accept_line, row_line, who_of, mark_and_ignored, refuse_word, refuse_line, answer_text, tick_line}

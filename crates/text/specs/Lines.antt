@@ -5,7 +5,6 @@ use Rattle.refusals.specs.declared.Refusal.{Refusal}
 use Rattle.refusals.specs.Refusals.{number_of, place_of}
 use Rattle.machine.specs.declared.Ran.{Ran}
 use Rattle.machine.specs.declared.Mark.{Mark}
-use Rattle.machine.specs.declared.Taken.{Taken}
 use Rattle.machine.specs.declared.Answer.{Answer}
 use Rattle.text.specs.Put.{digits_of, spaced}
 

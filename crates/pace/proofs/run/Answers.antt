@@ -2,7 +2,6 @@ use Rattle.pace.proofs.Sums.{machine_more, sum_more}
 use Rattle.pace.specs.Pace.{machine_after, ticks_sum}
 use Rattle.least.specs.Sums.{sum}
 use native.Mathlib.Omega.{arith}
-use Prim.Native.Nat.{◌-◌}
 use mathlib.Core.Path.{◌≡◌, refl, ap, ◌∙◌}
 use Rattle.pace.proofs.run.Goals as goal
 

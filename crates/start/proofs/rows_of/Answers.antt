@@ -1,7 +1,6 @@
 use lib.ListN.{replicate}
 use mathlib.Core.List.{List}
 use mathlib.Core.Path.{◌≡◌, ap, ◌∙◌}
-use Prim.Native.Nat.{◌-◌}
 use native.Mathlib.Omega.{arith}
 use lib.ListN.{set}
 use Rattle.machine.specs.declared.Row.{Row}

@@ -1,5 +1,4 @@
 use mathlib.Core.Path.{sym, ◌∙◌}
-use Prim.Native.Nat.{◌-◌}
 use native.Mathlib.Omega.{arith}
 use Rattle.least.proofs.Where.{walk_start, walk_next, walk_found, walk_none}
 use Rattle.export.specs.State.{unreadable}
