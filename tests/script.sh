@@ -58,18 +58,18 @@ holds() {
 stage() {
   local part
   mkdir -p "$1/target"
-  tar -C "$repo" --exclude=./.git --exclude=./target -cf - . | tar -C "$1" -xf -
+  tar -C "$repo" --exclude=./.git --exclude=./target --exclude='./crates/*/out' -cf - . | tar -C "$1" -xf -
   for part in bin built staticlib; do cp -a "$repo/target/$part" "$1/target/"; done
   cp "$script" "$1/tollsalmon"
 }
 
-# A stand-in for rt: notes how it was called, does what the file 'rt-does' in the room says, and removes target/ as 'rt ci' does.
+# A stand-in for rt: notes where and how it was called, and does what the file 'rt-does' in the room says.
 stand_in() {
   mkdir "$room/stand-in"
   cat >"$room/stand-in/rt" <<T
 #!/usr/bin/env bash
-echo "\$*" >>"$room/rt-calls"
-[[ \$1 != ci ]] || rm -rf target
+call="\${PWD##*/}: \$*"
+echo "\$call" >>"$room/rt-calls"
 . "$room/rt-does" "\$@"
 T
   chmod 755 "$room/stand-in/rt"
@@ -304,19 +304,23 @@ closed_pipe() {
   expect "the same where the signal is ignored" 4 "$room/first.out"
 }
 
-# rt as it proves crates, one of which is as it was, and builds the program or the library; what it does besides is given.
+# rt as it proves crates, two of which are as they were, and builds the program or the library; what it does besides is given.
 proving() {
   cat >"$room/rt-does" <<T
-case "\$*" in
-  "check run")
-    printf '%s\n' "rt: one proved (8 s)" "rt: two proved (unchanged since it was last proved)" "rt: run proved (36 s)"
+case "\$call" in
+  "one: lib" | "export: lib") printf '%s\n' "crate \${PWD##*/}: modules loaded=3 checked=5" "logic=proved functions=1" ;;
+  "two: lib") printf '%s\n' "crate two: modules loaded=8 checked=0" "logic=proved functions=1" ;;
+  "three: lib") ;;
+  "run: run")
+    echo "statements core: modules loaded=222 checked=0"
     $1
-    mkdir -p target/bin
-    cp "$at/target/bin/run" target/bin/run ;;
-  "check two one") printf '%s\n' "rt: one proved (8 s)" "rt: two proved (unchanged since it was last proved)" ;;
-  "staticlib export")
-    mkdir -p target/staticlib
-    cp "$at/target/staticlib/libtollsalmon.a" target/staticlib/libexport.a ;;
+    mkdir -p out
+    cp "$at/target/bin/run" out/run
+    echo "logic=proved functions=1" ;;
+  "export_c: lib")
+    mkdir -p out
+    cp "$at/target/staticlib/libtollsalmon.a" out/libexport_c.a
+    echo "logic=proved functions=9" ;;
   *) exit 2 ;;
 esac
 T
@@ -328,26 +332,29 @@ first_use() {
   stage "$room/first use"
   cd "$room/first use" || exit
   rm -rf target
-  printf 'one:\ntwo: one\nrun: two io\nexport: two one\nother: two\n' >crates.txt
+  mkdir crates/one crates/two crates/three
+  printf '%s\n' "run: three io # the program" "three: two" "two: one" "one:" "other: two" "export_c staticlib: export" "export: two one" >crates.txt
   proving "echo 'a note of the compiler'"
   try ./tollsalmon run "$example.plan"
-  expect "first use" 0 "$example.out" "proving and building the run program" "proved 1 of 3: one (" "proved 3 of 3: run (" " s so far)"
+  expect "first use" 0 "$example.out" "proving and building the run program" "proved 1 of 4: one (" "proved 4 of 4: run (" " s so far)"
   holds "what is as it was is not shown" says_nothing_of two
+  holds "nor is a library that was there" says_nothing_of three
   : >"$room/rt-calls"
   try ./tollsalmon run "$example.plan"
   expect "second use" 0 "$example.out"
   holds "second use proves nothing" not_called
   touch crates/least/src/lib.rt
-  proving "touch crates/least/specs/Lib.antt"
+  proving "touch ../least/specs/Lib.antt"
   try ./tollsalmon run "$example.plan"
-  expect "a changed source is proved" 0 "$example.out" "proved 3 of 3: run"
+  expect "a changed source is proved" 0 "$example.out" "proved 4 of 4: run"
   : >"$room/rt-calls"
   try ./tollsalmon run "$example.plan"
   holds "a source that changed during the proof is proved again" test -s "$room/rt-calls"
   rm -rf target
-  proving "echo 'rt: run NOT PROVED (exit 1, 3 s)'; exit 1"
+  proving "echo 'fn run::main: no proof'; exit 1"
   try ./tollsalmon run "$example.plan"
-  expect "what isn't proved" 3 $nothing "rt: run NOT PROVED" "the run program is not proved"
+  expect "what isn't proved" 3 $nothing "fn run::main: no proof" "the run program is not proved"
+  holds "what the prover says of its own library is not shown" says_nothing_of statements
 }
 
 # The library again: its copy changes only where its bytes do, or cargo would build everything again.
@@ -355,11 +362,12 @@ library() {
   cd "$room/first use" || exit
   proving :
   try ./tollsalmon install "$room/first prefix"
-  expect "first use of the library" 0 $nothing "proving and building the library" "proved 1 of 3: one (" "proved 3 of 3: export ("
+  expect "first use of the library" 0 $nothing "proving and building the library" "proved 1 of 4: one (" "proved 3 of 4: export (" \
+    "proved 4 of 4: export_c ("
   touch -d 2001-01-01 target/staticlib/libtollsalmon.a
   touch crates/least/src/lib.rt
   try ./tollsalmon install "$room/first prefix"
-  expect "a changed source proves the library again" 0 $nothing "proved 3 of 3: export ("
+  expect "a changed source proves the library again" 0 $nothing "proved 4 of 4: export_c ("
   holds "the library is not written again for nothing" test crates.txt -nt target/staticlib/libtollsalmon.a
   echo changed >target/staticlib/libtollsalmon.a
   try ./tollsalmon install "$room/first prefix"
@@ -409,8 +417,8 @@ locks() {
   holds "a script whose caller has the lock doesn't wait" test -e "$room/ended"
   release
   expect "and runs" 0 "$example.out"
-  touch "$room/lock/crates.txt"
-  echo "sleep 100 >/dev/null 2>&1 & echo \$! >'$room/left'" >"$room/rt-does"
+  proving "sleep 100 >/dev/null 2>&1 & echo \$! >'$room/left'"
+  echo "run:" >"$room/lock/crates.txt"
   try "$room/lock/tollsalmon" run "$example.plan"
   try "$room/lock/tollsalmon" run "$example.plan"
   expect "what a tool leaves behind doesn't hold the lock" 0 "$example.out"
@@ -419,10 +427,34 @@ locks() {
   : >"$room/rt-calls"
   while_locked "$room/lock/tollsalmon" test
   holds "test waits for the lock" not_called
-  holds "and leaves target/ alone until then" test -x "$room/lock/target/bin/run"
+  holds "and leaves what is built alone until then" test -e "$room/lock/target/built/run"
   release
   expect "test goes on after it, and says what isn't proved" 3 any "waiting for it" "not every crate is proved"
 }
+
+# What the gate makes of what rt ci says where it passes.
+gate() {
+  local -a edits
+  stage "$room/gate"
+  edits=("$room/gate"/crates/*/must-fail/*.edit)
+  rt_ci_says "must-fail edits: $((${#edits[@]} - 1)) refused, 1 bad; every proof and must-fail edit was done in this run"
+  try "$room/gate/.ci/run"
+  expect "an edit that is bad fails the gate" 1 any "1 of the ${#edits[@]} edits that must fail are bad"
+  rt_ci_says "must-fail edits: $((${#edits[@]} - 3)) refused, 2 of them only by a limit, 3 bad; done in this run: 1 of the 2 proofs"
+  try "$room/gate/.ci/run"
+  expect "and so do three" 1 any "3 of the ${#edits[@]} edits that must fail are bad"
+  rt_ci_says "must-fail edits: $((${#edits[@]} - 1)) refused; every proof and must-fail edit was done in this run"
+  try "$room/gate/.ci/run"
+  expect "an edit that rt ci doesn't count fails the gate" 1 any "$((${#edits[@]} - 1)) of the ${#edits[@]} edits that must fail are refused"
+  echo 'echo "9 passed, 0 failed"' >"$room/rt-does"
+  try "$room/gate/.ci/run"
+  expect "so does rt ci without its word that all is well" 1 any "rt ci doesn't say that all is well"
+  : >"$room/rt-calls"
+  try "$room/gate/.ci/run"
+  holds "rt ci is called at the top of the checkout, with no names" grep -qx "gate: ci" "$room/rt-calls"
+}
+
+rt_ci_says() { printf 'printf "%%s\n" "rt: ok; handles allowed: none; %s" "9 passed, 0 failed"\n' "$1" >"$room/rt-does"; }
 
 installed() {
   local file
@@ -481,7 +513,7 @@ as_nobody=()
 { sed '/^ticks/q' "$at/plans/full-table.txt" && echo "- - - x8000"; } >"$room/long.txt"
 "$at/tollsalmon" make "$room/long.txt" >"$long" 2>/dev/null
 for part in wrong_words help paths no_such_file links cdpath every_plan refusals text_plans echoes full_disk closed_pipe first_use library \
-  missing installs locks stopped; do
+  missing installs locks gate stopped; do
   "$part"
 done
 holds "no temporary file is left" test -z "$(ls -A "$TMPDIR")"

@@ -11,7 +11,7 @@ need_rust() {
   need cc "on Debian: apt-get install gcc"
 }
 
-# 'test' removes target/, so nobody else may build or use what is there meanwhile. A script that this one calls has the lock by it.
+# 'test' sets aside what is built and builds it again, so nobody else may build or use it meanwhile. A script that this one calls has the lock by it.
 # What is started under the lock doesn't inherit it (9>&-), so that nothing it leaves behind holds it.
 lock() {
   [[ ${TOLLSALMON_LOCKED-} != "$home" ]] || return 0
@@ -37,21 +37,18 @@ cargo_in() {
   (cd "$folder" && cargo "$@") 9>&-
 }
 
-# The crates that a crate names in crates.txt.
-named_by() { awk -F: -v crate="$1" '{ sub(/#.*/, "") } $1 == crate { print $2 }' crates.txt; }
-
-# How many crates of this repository are proved for a crate, itself among them.
+# A crate of this repository and those that it stands on, lowest first: a name a line.
 crates_for() {
-  awk -F: -v crate="$1" '
+  awk -v crate="$1" '
     function visit(name, names, count, i) {
       if (!(name in needs) || seen[name]++) return
-      total++
       count = split(needs[name], names, " ")
       for (i = 1; i <= count; i++) visit(names[i])
+      print name
     }
     { sub(/#.*/, "") }
-    NF == 2 { needs[$1] = $2 }
-    END { visit(crate); print total + 0 }' crates.txt
+    split($0, sides, ":") == 2 { split(sides[1], words, " "); needs[words[1]] = sides[2] }
+    END { visit(crate) }' crates.txt
 }
 
 # The time since a start.
@@ -61,24 +58,38 @@ so_far() {
   printf '%d s so far' $((seconds % 60))
 }
 
+# What the prover says of a crate's text; what it says of the proved libraries below tells nobody anything.
 not_proved() {
-  tail -n 20 "$room/log" >&2
+  grep -vE '^(statements|library|crate|axioms|logic) ' "$room/log" | tail -n 20 >&2 || :
   die 3 "$1 is not proved"
 }
 
-# Proves crates and what they need. A line for each that is really proved, none for those that are as they were.
+# Whether the crate was really proved, not found as it was: rt says how much of its proof it checked.
+was_proved() { grep -q '^logic=proved' "$room/log" && ! grep -q "^crate $1: .* checked=0\$" "$room/log"; }
+
+# Proves and builds a crate and what it stands on, lowest first, each in its folder: what rt makes lies in crates/CRATE/out/. A line for the
+# crate itself and for each other that is really proved, none for those that are as they were.
 prove() {
-  local what=$1 total=$2 line count=0
-  shift 2
-  rt check "$@" 2>&1 9>&- | tee "$room/log" | while IFS= read -r line; do
-    [[ $line =~ ^rt:\ ([A-Za-z0-9_]+)\ proved\ \((.*)\)$ ]] || continue
+  local what=$1 top=$2 word=$3 crate count=0
+  local -a crates
+  mapfile -t crates < <(crates_for "$top")
+  for crate in "${crates[@]}"; do
     count=$((count + 1))
-    [[ ${BASH_REMATCH[2]} == unchanged* ]] || say "proved $count of $total: ${BASH_REMATCH[1]} ($(so_far "$began"))"
-  done || not_proved "$what"
+    if [[ $crate == "$top" ]]; then
+      rt_in "$crate" "$word" || not_proved "$what"
+    else
+      rt_in "$crate" lib || not_proved "$what"
+      was_proved "$crate" || continue
+    fi
+    say "proved $count of ${#crates[@]}: $crate ($(so_far "$began"))"
+  done
 }
 
+# rt in a crate's folder. 'rt run' also runs the program that it has built: on nothing, for nobody.
+rt_in() { (cd "crates/$1" && rt "$2" </dev/null) >"$room/log" 2>&1 9>&-; }
+
 # Whether a file was built from the sources as they stand: its mark has the time at which that build began.
-built() { [[ -e $2 && -e target/built/$1 && -z $(find crates crates.txt -newer "target/built/$1" -print -quit) ]]; }
+built() { [[ -e $2 && -e target/built/$1 && -z $(find crates.txt crates/*/src crates/*/specs crates/*/proofs -newer "target/built/$1" -print -quit) ]]; }
 
 begin_mark() {
   began=$SECONDS
@@ -87,38 +98,38 @@ begin_mark() {
 
 end_mark() { mv "target/built/$1.new" "target/built/$1"; }
 
+# What rt has built, in its place in target/. It changes only where its bytes do, so that cargo builds nothing again for nothing.
+place() {
+  { mkdir -p "${2%/*}" && { cmp -s "$1" "$2" || { cp "$1" "$2.new" && mv "$2.new" "$2"; }; }; } || die 3 "target/ can't be written"
+}
+
 # The run program, proved and linked; a change of any source proves again what it touches.
 build_program() {
   local what="the run program"
   ! built run target/bin/run || return 0
   need_kit
-  [[ -x target/bin/run && -e target/stamp/run && ! -e target/built/run ]] || say "proving and building $what; the first time takes some minutes"
+  say "proving and building $what; the first time takes some minutes"
   begin_mark run
-  prove "$what" "$(crates_for run)" run
+  prove "$what" run run
+  place crates/run/out/run target/bin/run
   end_mark run
 }
 
-# A crate as target/staticlib/libCRATE.a. rt proves the crate itself for that, so before it only what it needs is proved.
+# The crate that hands a library to C, and that library under its own name in target/staticlib/, always as it was proved.
 static_library() {
-  local what=$1 crate=$2 total
-  ! built "$crate" "target/staticlib/lib$crate.a" || return 0
-  need_kit
-  say "proving and building $what; the first time takes some minutes"
-  begin_mark "$crate"
-  total=$(crates_for "$crate")
-  # shellcheck disable=SC2046 # names of crates, one word each
-  prove "$what" "$total" $(named_by "$crate")
-  rt staticlib "$crate" >"$room/log" 2>&1 9>&- || not_proved "$what"
-  say "proved $total of $total: $crate ($(so_far "$began"))"
-  end_mark "$crate"
+  local what=$1 crate=$2 name=$3 proved=target/built/lib$2.a
+  built "$crate" "$proved" || {
+    need_kit
+    say "proving and building $what; the first time takes some minutes"
+    begin_mark "$crate"
+    prove "$what" "$crate" lib
+    place "crates/$crate/out/lib$crate.a" "$proved"
+    end_mark "$crate"
+  }
+  place "$proved" "target/staticlib/lib$name.a"
 }
 
-# The library under its own name; the copy changes only where its bytes do, so that cargo builds nothing again for nothing.
-library() {
-  local folder=target/staticlib
-  static_library "the library" export
-  cmp -s $folder/libexport.a $folder/libtollsalmon.a || cp $folder/libexport.a $folder/libtollsalmon.a
-}
+library() { static_library "the library" export_c tollsalmon; }
 
 # The tool for plans as text.
 build_tool() {

@@ -33,6 +33,17 @@ edges() {
   tests/script.sh 9>&-
 }
 
+# Every edit that must fail is refused. rt ci itself passes where one is bad: its text doesn't stand in the file, or what it makes isn't read.
+edits_refused() {
+  local line bad refused
+  local -a edits=(crates/*/must-fail/*.edit)
+  line=$(grep '^rt: ok;' "$room/ci") || die 1 "rt ci doesn't say that all is well"
+  bad=$(sed -n 's/^.*; must-fail edits: [^;]*, \([0-9]*\) bad;.*$/\1/p' <<<"$line")
+  refused=$(sed -n 's/^.*; must-fail edits: \([0-9]*\) refused[,;].*$/\1/p' <<<"$line")
+  [[ ${bad:-0} -eq 0 ]] || die 1 "$bad of the ${#edits[@]} edits that must fail are bad: they say nothing of a contract"
+  [[ ${refused:-0} -eq ${#edits[@]} ]] || die 1 "rt ci says that ${refused:-0} of the ${#edits[@]} edits that must fail are refused"
+}
+
 run_tests() {
   local last start=$SECONDS
   need_kit
@@ -43,9 +54,12 @@ run_tests() {
   tools/reading.sh
   tools/refusals.sh check
   say "proving every crate from nothing; this takes some minutes"
-  rt ci 9>&- | tee "$room/ci" || die 3 "not every crate is proved"
+  rt ci 9>&- | tee "$room/ci" || die 3 "not every crate is proved, or not every edit refused"
   last=$(tail -n 1 "$room/ci")
+  edits_refused
   say "every crate is proved and every edit refused ($(so_far "$start"))"
+  # What is compared is built after that, whatever was built before.
+  rm -rf target/built
   library
   compare
   plans
@@ -65,6 +79,6 @@ bench() {
   cd "$home"
   lock
   library
-  static_library "the benchmark's library" pace
+  static_library "the benchmark's library" pace_c pace
   for part in bench_analysis bench_machine bench_step bench_run; do cargo_in bench run --release --quiet --bin "$part"; done
 }
