@@ -53,7 +53,7 @@ run_tests() {
   lock
   tools/reading.sh
   tools/refusals.sh check
-  say "proving every crate from nothing; this takes some minutes"
+  say "proving every crate; the first time takes some minutes"
   rt ci 9>&- | tee "$room/ci" || die 3 "not every crate is proved, or not every edit refused"
   last=$(tail -n 1 "$room/ci")
   edits_refused

@@ -124,6 +124,8 @@ def fall_together(table):
 
 
 def main():
+    if "fieldsFit" not in own_names():
+        sys.exit("the names are turned already")
     table = meant_names()
     fall_together(table)
     if "--try" in sys.argv:
