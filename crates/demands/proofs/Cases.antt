@@ -61,7 +61,8 @@ taken_of ticks = (run (start_of p3).machine ticks).taken
 
 -- the counts of task 1 as document 01 prints them: jobs arrived, guest outputs, hypertask outputs, jobs still open
 abbrev pub totals : List Tick → List ℕ
-totals ticks = jobs_arrived (taken_of ticks) 0 ∷ guest_outputs_of (taken_of ticks) 0 ∷ hypertask_outputs_of (taken_of ticks) 0 ∷ jobs_open (taken_of ticks) 0 ∷ []
+totals ticks =
+    jobs_arrived (taken_of ticks) 0 ∷ guest_outputs_of (taken_of ticks) 0 ∷ hypertask_outputs_of (taken_of ticks) 0 ∷ jobs_open (taken_of ticks) 0 ∷ []
 
 -- who ran in tick x, and its mark
 abbrev pub said : List Tick → ℕ → Taken

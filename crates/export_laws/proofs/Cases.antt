@@ -56,7 +56,8 @@ unfolding first_where up sum largest list_of flat B demand active_side active_pe
     begun_by_hypertask begun_by_guest bound below F window_side WA WE guest table_check row_by_row hypertask_check guest_check solved
     age first_from map_from every how_many fields_fit stage_fits is_blank well_formed verdict chosen turned taken step_of fresh_rows fresh_at
     row_of start_answer start_of number_at sections_from sections_of body_of wrong_kind start_at wrong_record first_wrong_record asked first_entry
-    entries_refusal read_refusal part_of start_says state_started state_of row_in machine_in stray unreadable readable to_front machine_after answer_to ticks_taken
+    entries_refusal read_refusal part_of start_says state_started state_of row_in machine_in stray unreadable readable to_front machine_after answer_to
+    ticks_taken
 functions_right =
     record {
       accepted = (refl, refl);

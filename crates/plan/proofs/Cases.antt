@@ -16,7 +16,8 @@ unfolding table_bytes contents bodies file_of plan_of plan_file
 file_of_p2 = refl
 
 pub parts_of_p2 : (part_of rows_kind plan_of_p2 ≡ rows_of_p2) × (part_of script_kind plan_of_p2 ≡ script)
-unfolding first_where number_at sections_from sections_of body_of start_at wrong_kind wrong_record first_wrong_record asked first_entry entries_refusal read_refusal part_of
+unfolding first_where number_at sections_from sections_of body_of start_at wrong_kind wrong_record first_wrong_record asked
+    first_entry entries_refusal read_refusal part_of
 parts_of_p2 = (refl, refl)
 
 pub table_of_p2 : table_of rows_of_p2 ≡ table
@@ -24,7 +25,8 @@ unfolding number_at list_of
 table_of_p2 = refl
 
 pub reads_right : ReadsRight reads
-unfolding first_where number_at sections_from sections_of body_of start_at wrong_kind wrong_record first_wrong_record asked first_entry entries_refusal read_refusal
+unfolding first_where number_at sections_from sections_of body_of start_at wrong_kind wrong_record first_wrong_record asked
+    first_entry entries_refusal read_refusal
 reads_right = refl
 
 pub writes_right : WritesRight writes

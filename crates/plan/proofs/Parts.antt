@@ -13,7 +13,8 @@ use lib.ListN.{length, take, drop, length-take, length-drop}
 use lib.Seq.{get_or-take, get_or-drop}
 use Rattle.plan.specs.declared.Ask.TheVariants.{OfKind}
 use Rattle.plan.specs.Numbers.{AllBelow}
-use Rattle.plan.specs.PlanFile.{Section, entry_at, sections_of, body_of, rows_kind, script_kind, most_sections, wrong_rows, wrong_script, wrong_size, first_entry}
+use Rattle.plan.specs.PlanFile.{Section, entry_at, sections_of, body_of, rows_kind, script_kind, most_sections}
+use Rattle.plan.specs.PlanFile.{wrong_rows, wrong_script, wrong_size, first_entry}
 use Rattle.plan.specs.Meaning.{section_in, Plan}
 use Rattle.plan.proofs.Tests.{or_inv}
 use Rattle.plan.proofs.Entries.{body_at, body_is}

@@ -30,7 +30,8 @@ pub texts_right : Right cases
 unfolding first_where up sum largest list_of flat B demand active_side active_period releases start_demand start_side start job_response worst response E
     begun_by_hypertask begun_by_guest bound below F window_side WA WE guest table_check row_by_row hypertask_check guest_check solved
     age first_from map_from every how_many fields_fit stage_fits is_blank well_formed verdict chosen turned taken step_of fresh_rows fresh_at
-    row_of start_answer start_of number_at table_bytes contents bodies file_of sections_from sections_of body_of wrong_kind start_at wrong_record first_wrong_record
+    row_of start_answer start_of number_at table_bytes contents bodies file_of sections_from sections_of body_of wrong_kind start_at wrong_record
+    first_wrong_record
     asked first_entry entries_refusal read_refusal part_of plan_of plan_file after onward latest guest_outputs hypertask_outputs jobs_arrived guest_outputs_of
     hypertask_outputs_of jobs_open digits_in digits_of spaced row_lines ticks_from task_lines tick_lines table_text text_of
 texts_right =

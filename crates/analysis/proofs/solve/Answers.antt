@@ -47,6 +47,7 @@ returns-in-Stopped-guests c = let s = c.args.table.now in record {
 pub returns : goal.returns
 returns c = let s = c.args.table.now in record {
   value = sym (accepted s (hypertasks_pass (goal.at.returns c).In_default) (guests_pass (goal.at.returns c).In_default-guests));
-  lent_after = c.write.ensures ∙ ap (λ (x : List ℕ). x ++ drop (3 * rows s) c.args.lent.now) (results_are s _ _ _ (rows s) (filled (goal.at.returns c).In_default)
+  lent_after = c.write.ensures ∙ ap (λ (x : List ℕ). x ++ drop (3 * rows s) c.args.lent.now)
+      (results_are s _ _ _ (rows s) (filled (goal.at.returns c).In_default)
       (guests_filled (goal.at.returns c).In_default-guests));
 }

@@ -12,7 +12,8 @@ returns-then-clock-eq1099511627776 c = rw (c.if-count-clock.false, eq-eqb _ _ c.
 
 pub returns-then-past-lt32 : goal.returns-then-past-lt32
 unfolding judged_by
-returns-then-past-lt32 c = rw (c.if-count-clock.false, ne_eqb _ _ c.if-clock-eq1099511627776.false, ← c.lowest_past-past.ensures, lt-ltb _ _ c.if-past-lt32.true)
+returns-then-past-lt32 c =
+    rw (c.if-count-clock.false, ne_eqb _ _ c.if-clock-eq1099511627776.false, ← c.lowest_past-past.ensures, lt-ltb _ _ c.if-past-lt32.true)
 
 pub returns-then-w-lt32 : goal.returns-then-w-lt32
 unfolding judged_by

@@ -52,7 +52,8 @@ pub returns-in-Here-bad_deadline : goal.returns-in-Here-bad_deadline
 returns-in-Here-bad_deadline c = let s = c.args.table.now in
     let fine = length_fine s (omega arith) (omega arith) (omega arith) in
     record {
-      value = sym (deadline_bad s _ fine (no_field (goal.at.returns-in-Here-bad_deadline c).In_default) (late_row (goal.at.returns-in-Here-bad_deadline c).In-Here-bad_deadline));
+      value = sym (deadline_bad s _ fine (no_field (goal.at.returns-in-Here-bad_deadline c).In_default)
+          (late_row (goal.at.returns-in-Here-bad_deadline c).In-Here-bad_deadline));
       sound = λ x. absurd (stopped_passed _ x);
     }
 

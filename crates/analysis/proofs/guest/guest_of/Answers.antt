@@ -23,7 +23,8 @@ returns-in_default c = let s = c.args.table.now in
 pub returns-in_default-window_begun_by_hypertask : goal.returns-in_default-window_begun_by_hypertask
 returns-in_default-window_begun_by_hypertask c = let s = c.args.table.now in
     let i = c.args.i in
-    sym (guest_19 s i _ (guest_begins (goal.at.returns-in_default-window_begun_by_hypertask c).In-At) (found_none (WE s i) (sym c.in_default-window_begun_by_hypertask.is
+    sym (guest_19 s i _ (guest_begins (goal.at.returns-in_default-window_begun_by_hypertask c).In-At)
+    (found_none (WE s i) (sym c.in_default-window_begun_by_hypertask.is
     ∙ c.window_begun_by_hypertask.ensures)))
 
 pub returns : goal.returns

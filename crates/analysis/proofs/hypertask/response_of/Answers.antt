@@ -27,7 +27,12 @@ returns-in_default c = let s = c.args.table.now in
 
 pub rounded_up-jobs-requires : goal.rounded_up-jobs-requires
 rounded_up-jobs-requires c = let s = c.args.table.now in
-    omega (arith, active≤ s c.args.i _ (period (goal.at.rounded_up-jobs-requires c).In-At), T≥1 s c.requires.0 c.args.i c.requires.1, T≤ s c.requires.0 c.args.i c.requires.1)
+    omega (
+      arith,
+      active≤ s c.args.i _ (period (goal.at.rounded_up-jobs-requires c).In-At),
+      T≥1 s c.requires.0 c.args.i c.requires.1,
+      T≤ s c.requires.0 c.args.i c.requires.1,
+    )
 
 pub worst_of-requires : goal.worst_of-requires
 worst_of-requires c = let s = c.args.table.now in
@@ -45,7 +50,9 @@ worst_of-requires c = let s = c.args.table.now in
 pub returns-in_default-worst_of : goal.returns-in_default-worst_of
 returns-in_default-worst_of c = let s = c.args.table.now in
     let i = c.args.i in
-    sym (response_6 s i _ (period (goal.at.returns-in_default-worst_of c).In-At) (ap (worst s i) (sym (jobs (goal.at.returns-in_default-worst_of c).After-rounded_up-jobs)) ∙ found_none (worst s i _) (sym c.in_default-worst_of.is
+    sym (response_6 s i _ (period (goal.at.returns-in_default-worst_of c).In-At)
+    (ap (worst s i) (sym (jobs (goal.at.returns-in_default-worst_of c).After-rounded_up-jobs))
+    ∙ found_none (worst s i _) (sym c.in_default-worst_of.is
     ∙ c.worst_of.ensures)))
 
 pub returns : goal.returns

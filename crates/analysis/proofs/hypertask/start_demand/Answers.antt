@@ -12,7 +12,12 @@ unfolding start_demand
 value c = cc
 
 pub overflow_mul-result : goal.overflow_mul-result
-overflow_mul-result c = omega (arith, value (goal.at.overflow_mul-result c).After-cell, start_demand≤ c.args.table.now c.requires.0 c.args.w c.args.j c.requires.1 c.requires.2)
+overflow_mul-result c =
+    omega (
+      arith,
+      value (goal.at.overflow_mul-result c).After-cell,
+      start_demand≤ c.args.table.now c.requires.0 c.args.w c.args.j c.requires.1 c.requires.2,
+    )
 
 pub returns : goal.returns
 returns c = value (goal.at.returns c).After-cell

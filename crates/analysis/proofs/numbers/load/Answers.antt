@@ -11,4 +11,9 @@ value : (c : After-rounded_up)
 value c = ap (λ (x : ℕ). x * c.args.ticks) c.rounded_up.ensures
 
 pub overflow_mul-result : goal.overflow_mul-result
-overflow_mul-result c = omega (arith, value (goal.at.overflow_mul-result c).After-rounded_up, loads≤ c.args.w c.args.period c.args.ticks c.requires.0 c.requires.2 c.requires.3)
+overflow_mul-result c =
+    omega (
+      arith,
+      value (goal.at.overflow_mul-result c).After-rounded_up,
+      loads≤ c.args.w c.args.period c.args.ticks c.requires.0 c.requires.2 c.requires.3,
+    )

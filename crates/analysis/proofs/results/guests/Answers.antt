@@ -33,8 +33,10 @@ overflow_cast-gs c = let s = c.args.table.now in
 
 pub loop-i-preserved : goal.loop-i-preserved
 loop-i-preserved c = let s = c.args.table.now in
-    let l = c.loop-i in
-    (rows_next (guest s) _ l.i _ l.invariant.0 (omega arith) (found (goal.at.loop-i-preserved c).In-Is), guests_more s l.gs l.i _ l.invariant.1 (omega arith) (found (goal.at.loop-i-preserved c).In-Is))
+    let l = c.loop-i in (
+      rows_next (guest s) _ l.i _ l.invariant.0 (omega arith) (found (goal.at.loop-i-preserved c).In-Is),
+      guests_more s l.gs l.i _ l.invariant.1 (omega arith) (found (goal.at.loop-i-preserved c).In-Is),
+    )
 
 pub returns : goal.returns
 unfolding guest_check

@@ -10,6 +10,7 @@ use native.Mathlib.Omega.{arith}
 use mathlib.Core.Bool.{true, false}
 use mathlib.Core.Path.{◌≡◌, ◌∙◌, sym, ap}
 use Rattle.machine.proofs.Machine.step.Goals as goal
+use borrow.Author.Rules.{rules}
 use Rattle.machine.proofs.Machine.step.Goals.{then-w-2, else-w-2, then-place-lt32, else-place-lt32}
 
 pub returns-then-self-gt32 : goal.returns-then-self-gt32
@@ -19,7 +20,7 @@ returns-then-self-gt32 c = let a = c.args in
 
 pub loop-i-init : goal.loop-i-init
 loop-i-init c = let m = c.args.self in
-    let l : length m.rows ≡ 32 = c.well_formed.0.1.1.0.1.0.1 in
+    let l : length m.rows ≡ 32 = search rules in
     (omega arith, omega arith, l, rw c.nothing-w.ensures (pass_begins m c.args.mask l c.if-self-gt32.false))
 
 pub returns-then-w : goal.returns-then-w
@@ -125,7 +126,9 @@ returns-in-Accepted c = let a = c.args in
     let rows = turned_rows m a.mask w next done c.in-Accepted.place j in
     elim c.if-place-lt32.branch [
       | then-place-lt32 x ↦
-          c.advance.ensures ∙ rw (x.next-is, x.taken-is, yes, runs_at m a.mask w next done c.in-Accepted.place j x.if-place-lt32.true, x.staged.ensures, x.run-o.ensures, rows)
+          let r = runs_at m a.mask w next done c.in-Accepted.place j x.if-place-lt32.true in
+          c.advance.ensures ∙ rw (x.next-is, x.taken-is, yes, r, x.staged.ensures, x.run-o.ensures, rows)
       | else-place-lt32 x ↦
-          c.advance.ensures ∙ rw (x.next-is, x.taken-is, yes, runs_none m a.mask w next done c.in-Accepted.place j x.if-place-lt32.false, c.nobody-taken.ensures, rows)
+          let r = runs_none m a.mask w next done c.in-Accepted.place j x.if-place-lt32.false in
+          c.advance.ensures ∙ rw (x.next-is, x.taken-is, yes, r, c.nobody-taken.ensures, rows)
     ]
