@@ -3,7 +3,7 @@
 use mathlib.Core.Path.{◌≡◌, refl, sym, ap, ◌∙◌}
 use mathlib.Core.List.{List, [], ◌∷◌, ◌++◌}
 use mathlib.Core.Logic.{⊎_elim}
-use mathlib.Core.Option.{Option, none, some}
+use Rattle.std.specs.Option.{Option, None, Some}
 use Prim.Native.Nat.{ℕ, suc, ◌+◌, ◌-◌, ◌*◌, ◌≤◌, ◌<◌}
 use native.Mathlib.Nat.{lt_irrefl, eq-or-lt_of_le}
 use native.Mathlib.Numerals.{add-one, add-two}
@@ -29,27 +29,27 @@ use Rattle.analysis.specs.declared.numbers.Found.TheVariants.{At, Nothing}
 use Rattle.analysis.specs.declared.checks.Place.TheVariants.{Here, Nowhere}
 
 -- what the code's answers say of the definitions'
-pub found_some : (o : Option ℕ) (w : ℕ) → At w ≡ found_of o → o ≡ some w
-found_some none w e = let z : ◌≡◌ {A = ℕ} 0 1 = cc in absurd (lt_irrefl 0 (omega arith))
-found_some (some v) w e = cc
+pub found_some : (o : Option ℕ) (w : ℕ) → At w ≡ found_of o → o ≡ Some w
+found_some None w e = let z : ◌≡◌ {A = ℕ} 0 1 = cc in absurd (lt_irrefl 0 (omega arith))
+found_some (Some v) w e = cc
 
-pub found_none : (o : Option ℕ) → Nothing ≡ found_of o → o ≡ none
-found_none none e = refl
-found_none (some v) e = let z : ◌≡◌ {A = ℕ} 0 1 = cc in absurd (lt_irrefl 0 (omega arith))
+pub found_none : (o : Option ℕ) → Nothing ≡ found_of o → o ≡ None
+found_none None e = refl
+found_none (Some v) e = let z : ◌≡◌ {A = ℕ} 0 1 = cc in absurd (lt_irrefl 0 (omega arith))
 
-pub place_some : (o : Option ℕ) (k : ℕ) → Here k ≡ place_of o → o ≡ some k
-place_some none k e = let z : ◌≡◌ {A = ℕ} 0 1 = cc in absurd (lt_irrefl 0 (omega arith))
-place_some (some v) k e = cc
+pub place_some : (o : Option ℕ) (k : ℕ) → Here k ≡ place_of o → o ≡ Some k
+place_some None k e = let z : ◌≡◌ {A = ℕ} 0 1 = cc in absurd (lt_irrefl 0 (omega arith))
+place_some (Some v) k e = cc
 
-pub place_none : (o : Option ℕ) → Nowhere ≡ place_of o → o ≡ none
-place_none none e = refl
-place_none (some v) e = let z : ◌≡◌ {A = ℕ} 0 1 = cc in absurd (lt_irrefl 0 (omega arith))
+pub place_none : (o : Option ℕ) → Nowhere ≡ place_of o → o ≡ None
+place_none None e = refl
+place_none (Some v) e = let z : ◌≡◌ {A = ℕ} 0 1 = cc in absurd (lt_irrefl 0 (omega arith))
 
 -- a search over the candidates from lo on and below `end`, n in all
 pub sought : (f : ℕ → ℕ) (lo end n : ℕ) (o : Option ℕ) → end - lo ≡ n → first f lo (end - lo) ≡ o → found_of o ≡ found_of (first f lo n)
 sought f lo end n o z e = ap found_of (sym e ∙ ap (first f lo) z)
 
-pub sought_none : (f : ℕ → ℕ) (lo n : ℕ) → n ≡ 0 → found_of none ≡ found_of (first f lo n)
+pub sought_none : (f : ℕ → ℕ) (lo n : ℕ) → n ≡ 0 → found_of None ≡ found_of (first f lo n)
 sought_none f lo n z = ap found_of (sym (ap (first f lo) z ∙ where_empty _ lo))
 
 pub starts_from_never_falls : (s : List ℕ) (i own : ℕ) → NeverFalls (starts_from s i own)

@@ -1,7 +1,7 @@
 -- What the private functions say of their loops and local arrays; the public promise needs none of it.
 -- Assumes nothing.
 use Rattle.std.specs.Prelude.{◌≡◌, List, [], ◌∷◌, ℕ, ◌+◌, ◌≤◌, ◌<◌, length, get_or}
-use Rattle.std.proofs.Math.Option.{Option, none, some}
+use Rattle.std.specs.Option.{Option, None, Some}
 use Rattle.least.specs.Sums.{sum}
 use Rattle.equations.specs.Table.{rows}
 use Rattle.equations.specs.Hypertask.{start_demand, response, E}
@@ -14,13 +14,13 @@ use Rattle.analysis.specs.declared.checks.Place.TheVariants.{Here, Nowhere}
 
 -- a solution, or none, as the code answers it
 abbrev pub found_of : Option ℕ → Found
-found_of none = Nothing
-found_of (some t) = At t
+found_of None = Nothing
+found_of (Some t) = At t
 
 -- a place, or none, as the code answers it
 abbrev pub place_of : Option ℕ → Place
-place_of none = Nowhere
-place_of (some k) = Here k
+place_of None = Nowhere
+place_of (Some k) = Here k
 
 -- the right side of a start's equation, from the row's own part
 unfoldable pub starts_from : List ℕ → ℕ → ℕ → ℕ → ℕ

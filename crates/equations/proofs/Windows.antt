@@ -4,7 +4,7 @@ use mathlib.Core.Path.{◌≡◌, refl, sym, ap, subst, ◌∙◌}
 use mathlib.Core.Bool.{Bool, true, false}
 use mathlib.Core.List.{List}
 use mathlib.Core.Logic.{◌⊎◌, ◌↔◌, ⊎_elim}
-use mathlib.Core.Option.{Option, none, some}
+use Rattle.std.specs.Option.{Option, None, Some}
 use Prim.Native.Nat.{ℕ, zero, suc, ◌+◌, ◌*◌, ◌≤◌, ◌<◌}
 use native.Mathlib.Nat.{lt_irrefl, le_refl}
 use native.Mathlib.Numerals.{add-one}
@@ -118,24 +118,24 @@ module _ (s : List ℕ) (r e g : ℕ → ℕ) (i : ℕ) (w : WindowsReached s r 
 
   -- where no window is within its limit, none is found
   window_missing : (own last : ℕ) → ((v : ℕ) → 1 ≤ v → v ≤ last → v ≡ window_side s e i own v → ⊥)
-      → first (window_side s (E s) i own) 1 last ≡ none
+      → first (window_side s (E s) i own) 1 last ≡ None
   window_missing own last h = by (first (window_side s (E s) i own) 1 last) refl
     where
-      by : (o : Option ℕ) → first (window_side s (E s) i own) 1 last ≡ o → o ≡ none
-      by none q = refl
-      by (some v) q =
+      by : (o : Option ℕ) → first (window_side s (E s) i own) 1 last ≡ o → o ≡ None
+      by None q = refl
+      by (Some v) q =
           let l = found (window_side s (E s) i own) last 1 v q in
           absurd (h v l.0.from (omega (arith, l.1)) (l.0.solves ∙ sym (same_side own v)))
 
-  WA_missing : NoWA s e i → WA s i ≡ none
+  WA_missing : NoWA s e i → WA s i ≡ None
   unfolding WA
   WA_missing h = window_missing (C s i) (E s i) (λ v a b. h v a (omega (arith, offsets i (le_refl i))))
 
-  WE_missing : NoWE s e i → WE s i ≡ none
+  WE_missing : NoWE s e i → WE s i ≡ None
   unfolding WE
   WE_missing h = window_missing (C s i + K s i) (T s i) h
 
-  WA_there : (v : ℕ) → Least (window_side s e i (C s i)) 1 v → v ≤ e i → WA s i ≡ some v
+  WA_there : (v : ℕ) → Least (window_side s e i (C s i)) 1 v → v ≤ e i → WA s i ≡ Some v
   WA_there v l b = WA_finds s i v (least_same _ _ (same_side (C s i)) 1 v l) (omega (arith, offsets i (le_refl i)))
 
 -- ## By number and place

@@ -3,7 +3,7 @@
 use mathlib.Core.Path.{◌≡◌, refl, sym, ap, ◌∙◌}
 use mathlib.Core.Bool.{Bool, true, false}
 use mathlib.Core.List.{List, ◌++◌}
-use mathlib.Core.Option.{Option, none, some}
+use Rattle.std.specs.Option.{Option, None, Some}
 use Prim.Native.Nat.{ℕ, ◌*◌, ◌/◌, ◌≤◌, ◌<◌, min}
 use borrow.Author.Tests.{lt-ltb, le-ltb, ne_eqb}
 use lib.Dec.{eqb}
@@ -102,15 +102,15 @@ module _ (s : List ℕ) (mask signal early : ℕ) (lent : List ℕ) where
 
   pub step_early : 1 < early → StepsMachine s mask signal early lent 17 0 s lent
   unfolding step_refusal
-  step_early h = step_left 17 0 s lent (some (RecordBytes 0)) (rw (lt-ltb _ _ h)) refl refl refl refl
+  step_early h = step_left 17 0 s lent (Some (RecordBytes 0)) (rw (lt-ltb _ _ h)) refl refl refl refl
 
   pub step_short : early ≤ 1 → length lent < 12 → StepsMachine s mask signal early lent 18 12 s lent
   unfolding step_refusal
-  step_short h l = step_left 18 12 s lent (some (OutputShort 12)) (rw (le-ltb _ _ h, lt-ltb _ _ l)) refl refl refl refl
+  step_short h l = step_left 18 12 s lent (Some (OutputShort 12)) (rw (le-ltb _ _ h, lt-ltb _ _ l)) refl refl refl refl
 
   pub step_unread : early ≤ 1 → 12 ≤ length lent → readable s ≡ false → StepsMachine s mask signal early lent 8 0 s lent
   unfolding step_refusal
-  step_unread h l u = step_left 8 0 s lent (some (NotWellFormed 0)) (rw (le-ltb _ _ h, le-ltb _ _ l, u)) refl refl refl refl
+  step_unread h l u = step_left 8 0 s lent (Some (NotWellFormed 0)) (rw (le-ltb _ _ h, le-ltb _ _ l, u)) refl refl refl refl
 
   -- the tick rule's own refusal
   rule_says : (m : Machine) (x : Stepped) (a : Answer) → early ≤ 1 → 12 ≤ length lent → readable s ≡ true → m ≡ machine_in s
@@ -122,11 +122,11 @@ module _ (s : List ℕ) (mask signal early : ℕ) (lent : List ℕ) where
       → m ≡ machine_in s → x ≡ step_of m mask signal (eqb early 1) → x.answer ≡ Answer.Refused r → answer ≡ number_of r → place ≡ place_of r
       → StepsMachine s mask signal early lent answer place s lent
   step_refused m x r answer place h l u hm hx ha hr hp =
-      step_left answer place s lent (some r) (rule_says m x (Answer.Refused r) h l u hm hx ha) hr hp refl refl
+      step_left answer place s lent (Some r) (rule_says m x (Answer.Refused r) h l u hm hx ha) hr hp refl refl
 
   pub step_taken : (m : Machine) (x : Stepped) (t : Taken) (after out : List ℕ) → early ≤ 1 → 12 ≤ length lent → readable s ≡ true
       → m ≡ machine_in s → x ≡ step_of m mask signal (eqb early 1) → x.answer ≡ Answer.Taken t → after ≡ state_of x.machine ++ drop 258 s
       → out ≡ answer_bytes m.clock x.answer ++ drop 12 lent
       → StepsMachine s mask signal early lent 0 0 after out
   step_taken m x t after out h l u hm hx ha hs ho =
-      step_left 0 0 after out none (rule_says m x (Answer.Taken t) h l u hm hx ha) refl refl (hs ∙ rw (hx, hm)) (ho ∙ rw (hx, hm))
+      step_left 0 0 after out None (rule_says m x (Answer.Taken t) h l u hm hx ha) refl refl (hs ∙ rw (hx, hm)) (ho ∙ rw (hx, hm))

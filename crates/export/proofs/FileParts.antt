@@ -3,7 +3,7 @@
 use mathlib.Core.Path.{◌≡◌, refl, sym, ap, ◌∙◌}
 use mathlib.Core.Bool.{Bool, true, false}
 use mathlib.Core.List.{List, ◌++◌}
-use mathlib.Core.Option.{Option, none, some}
+use Rattle.std.specs.Option.{Option, None, Some}
 use Prim.Native.Nat.{ℕ, ◌+◌, ◌/◌, ◌%◌, ◌≤◌, ◌<◌}
 use native.Mathlib.Nat.{lt_irrefl, zero-add}
 use native.Mathlib.Omega.{arith}
@@ -27,13 +27,13 @@ use Rattle.export.specs.Files.{refusal_number, refusal_place, to_front, ChecksFi
 
 -- ## What is said
 
-accepts : (o : Option Refusal) → Answer.Accepted ≡ answer_of o → o ≡ none
-accepts none e = refl
-accepts (some r) e = let z : ◌≡◌ {A = ℕ} 0 1 = cc in absurd (lt_irrefl 0 (omega arith))
+accepts : (o : Option Refusal) → Answer.Accepted ≡ answer_of o → o ≡ None
+accepts None e = refl
+accepts (Some r) e = let z : ◌≡◌ {A = ℕ} 0 1 = cc in absurd (lt_irrefl 0 (omega arith))
 
-refuses : (o : Option Refusal) (r : Refusal) → Answer.Refused r ≡ answer_of o → o ≡ some r
-refuses none r e = let z : ◌≡◌ {A = ℕ} 0 1 = cc in absurd (lt_irrefl 0 (omega arith))
-refuses (some q) r e = cc
+refuses : (o : Option Refusal) (r : Refusal) → Answer.Refused r ≡ answer_of o → o ≡ Some r
+refuses None r e = let z : ◌≡◌ {A = ℕ} 0 1 = cc in absurd (lt_irrefl 0 (omega arith))
+refuses (Some q) r e = cc
 
 pub check_accepted : (file : List ℕ) (x : Answer) → x ≡ answer_of (read_refusal file) → x ≡ Answer.Accepted → ChecksFile file 0 0
 check_accepted file x e a =
@@ -48,13 +48,13 @@ check_refused file x r n i e a hn hi =
     let s = sym (refuses (read_refusal file) r (sym a ∙ e)) in
     record { answers = hn ∙ ap refusal_number s; places = hi ∙ ap (λ (o : Option Refusal). refusal_place o 0) s }
 
-writes : (o : Option Refusal) (m n : ℕ) → Writing.Written n ≡ writing_of o m → (o ≡ none) × (n ≡ m)
-writes none m n e = (refl, cc)
-writes (some r) m n e = let z : ◌≡◌ {A = ℕ} 0 1 = cc in absurd (lt_irrefl 0 (omega arith))
+writes : (o : Option Refusal) (m n : ℕ) → Writing.Written n ≡ writing_of o m → (o ≡ None) × (n ≡ m)
+writes None m n e = (refl, cc)
+writes (Some r) m n e = let z : ◌≡◌ {A = ℕ} 0 1 = cc in absurd (lt_irrefl 0 (omega arith))
 
-writes_not : (o : Option Refusal) (m : ℕ) (r : Refusal) → Writing.Refused r ≡ writing_of o m → o ≡ some r
-writes_not none m r e = let z : ◌≡◌ {A = ℕ} 0 1 = cc in absurd (lt_irrefl 0 (omega arith))
-writes_not (some q) m r e = cc
+writes_not : (o : Option Refusal) (m : ℕ) (r : Refusal) → Writing.Refused r ≡ writing_of o m → o ≡ Some r
+writes_not None m r e = let z : ◌≡◌ {A = ℕ} 0 1 = cc in absurd (lt_irrefl 0 (omega arith))
+writes_not (Some q) m r e = cc
 
 module _ (table script lent after : List ℕ) (x : Writing) (w : Writes table script lent x after) where
   pub write_written : (n : ℕ) → x ≡ Writing.Written n → WritesFile table script lent 0 n after
@@ -108,8 +108,8 @@ unfolding part_of
 rows_fours f b = go (read_refusal f) refl
   where
     go : (o : Option Refusal) → read_refusal f ≡ o → length (part_if (read_refusal f) (body_of rows_kind (sections_of f))) % 4 ≡ 0
-    go (some r) e = rw e refl
-    go none e = omega (arith, (accepted_rows f b e).2)
+    go (Some r) e = rw e refl
+    go None e = omega (arith, (accepted_rows f b e).2)
 
 taken_front : (rows lent : List ℕ) (b : Bool) → length rows % 4 ≡ 0 → ltb (length lent) (length rows / 4) ≡ b
     → after_taken (taken_of rows (length lent)) rows lent ≡ to_front (table_of rows) lent

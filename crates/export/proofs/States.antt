@@ -3,7 +3,7 @@
 use mathlib.Core.Path.{◌≡◌, refl, sym, ap, ◌∙◌}
 use mathlib.Core.Bool.{Bool, true, false, cond, true≢false}
 use mathlib.Core.List.{List, [], ◌∷◌, ◌++◌, append-nil}
-use mathlib.Core.Option.{Option, none, some}
+use Rattle.std.specs.Option.{Option, None, Some}
 use Prim.Native.Nat.{ℕ, suc, ◌+◌, ◌-◌, ◌*◌, ◌≤◌, ◌<◌}
 use native.Mathlib.Nat.{lt_irrefl}
 use native.Mathlib.Omega.{arith}
@@ -97,11 +97,11 @@ pub too_few : (l : List ℕ) → length l < 258 → false ≡ readable l
 unfolding readable
 too_few l h = rw (lt-ltb _ _ h)
 
-pub one_unreadable : (l : List ℕ) (k : ℕ) → 258 ≤ length l → first_where (unreadable l) 0 32 ≡ some k → false ≡ readable l
+pub one_unreadable : (l : List ℕ) (k : ℕ) → 258 ≤ length l → first_where (unreadable l) 0 32 ≡ Some k → false ≡ readable l
 unfolding readable
 one_unreadable l k h e = rw (le-ltb _ _ h, e)
 
-pub all_readable : (l : List ℕ) → 258 ≤ length l → first_where (unreadable l) 0 32 ≡ none → true ≡ readable l
+pub all_readable : (l : List ℕ) → 258 ≤ length l → first_where (unreadable l) 0 32 ≡ None → true ≡ readable l
 unfolding readable
 all_readable l h e = rw (le-ltb _ _ h, e)
 
@@ -117,9 +117,9 @@ can_read l e = go (ltb (length l) 258) refl (first_where (unreadable l) 0 32) re
     go : (b : Bool) → ltb (length l) 258 ≡ b → (o : Option ℕ) → first_where (unreadable l) 0 32 ≡ o
         → cond b false (is_none o) ≡ true → Readable l
     go true p o q e = absurd (true≢false (sym e))
-    go false p none q e =
+    go false p None q e =
         record { long = ltb-false (length l) 258 p; places = λ i h. where_none (unreadable l) 32 0 q i (omega arith) (omega arith) }
-    go false p (some k) q e = absurd (true≢false (sym e))
+    go false p (Some k) q e = absurd (true≢false (sym e))
 
 -- a row from its eight numbers
 pub row_is : (l : List ℕ) (i a b c d e x y z : ℕ) (s : Stage) → x ≡ number_in l i 5 → y ≡ number_in l i 6 → z ≡ number_in l i 7

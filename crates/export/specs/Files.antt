@@ -1,7 +1,7 @@
 -- Plan files through numbers and lent memory: what the reader and the writer say, and the parts of an accepted file.
 -- Assumes nothing.
 use Rattle.std.specs.Prelude.{◌≡◌, cond, List, ◌++◌, ℕ, ltb, length, drop}
-use Rattle.std.proofs.Math.Option.{Option, none, some}
+use Rattle.std.specs.Option.{Option, None, Some}
 use Rattle.refusals.specs.Refusals.{number_of, place_of}
 use Rattle.refusals.specs.declared.Refusal.{Refusal}
 use Rattle.plan.specs.Numbers.{table_of}
@@ -10,12 +10,12 @@ use Rattle.plan.specs.Writer.{plan_file, write_refusal, after_writing}
 
 -- 0 and the place of what is accepted, or the refusal's number and place
 abbrev pub refusal_number : Option Refusal → ℕ
-refusal_number none = 0
-refusal_number (some r) = number_of r
+refusal_number None = 0
+refusal_number (Some r) = number_of r
 
 abbrev pub refusal_place : Option Refusal → ℕ → ℕ
-refusal_place none accepted = accepted
-refusal_place (some r) accepted = place_of r
+refusal_place None accepted = accepted
+refusal_place (Some r) accepted = place_of r
 
 -- numbers to the front of lent ones; nothing is touched where they don't fit
 unfoldable pub to_front : List ℕ → List ℕ → List ℕ

@@ -2,7 +2,7 @@
 -- (0 Never, 1 Guest, 2 Hyper, 3 Closed), the arrival, the ticks used or left; 0 where the stage has none.
 -- Assumes nothing.
 use Rattle.std.specs.Prelude.{Bool, true, false, cond, ◌||◌, List, [], ◌∷◌, ◌++◌, ℕ, ◌+◌, ◌*◌, leb, ltb, eqb, length, get_or}
-use Rattle.std.proofs.Math.Option.{Option, none, some}
+use Rattle.std.specs.Option.{Option, None, Some}
 use Rattle.least.specs.Search.{first_where}
 use Rattle.least.specs.Lists.{list_of, flat}
 use Rattle.machine.specs.Rows.{no_row}
@@ -79,8 +79,8 @@ unreadable l i =
     || (ltb 3 (number_in l i 5) || stray (number_in l i 5) (number_in l i 6) (number_in l i 7))))))
 
 abbrev pub is_none : Option ℕ → Bool
-is_none none = true
-is_none (some i) = false
+is_none None = true
+is_none (Some i) = false
 
 -- long enough, and every place can be read
 unfoldable pub readable : List ℕ → Bool

@@ -1,7 +1,7 @@
 -- One tick from the machine in lent numbers, its answer as 12 bytes. A refused tick touches nothing.
 -- Assumes nothing.
 use Rattle.std.specs.Prelude.{◌≡◌, cond, List, ◌++◌, ℕ, ltb, eqb, length, drop}
-use Rattle.std.proofs.Math.Option.{Option, none, some}
+use Rattle.std.specs.Option.{Option, None, Some}
 use Rattle.refusals.specs.declared.Refusal.{Refusal}
 use Rattle.refusals.specs.declared.Refusal.TheVariants.{NotWellFormed, RecordBytes, OutputShort}
 use Rattle.machine.specs.TickRule.{step_of}
@@ -16,24 +16,24 @@ abbrev pub step_in : List ℕ → ℕ → ℕ → ℕ → Stepped
 step_in state mask signal early = step_of (machine_in state) mask signal (eqb early 1)
 
 abbrev pub refusal_in : Answer → Option Refusal
-refusal_in (Answer.Taken t) = none
-refusal_in (Answer.Refused r) = some r
+refusal_in (Answer.Taken t) = None
+refusal_in (Answer.Refused r) = Some r
 
 -- in this order: 17 for an early mark above 1 (as of the only record), 18 where the answer has no room, 8 for a state that can't be read,
 -- then the tick rule's own
 unfoldable pub step_refusal : List ℕ → ℕ → ℕ → ℕ → ℕ → Option Refusal
 step_refusal state mask signal early room =
-    cond (ltb 1 early) (some (RecordBytes 0)) (cond (ltb room 12) (some (OutputShort 12))
-    (cond (readable state) (refusal_in (step_in state mask signal early).answer) (some (NotWellFormed 0))))
+    cond (ltb 1 early) (Some (RecordBytes 0)) (cond (ltb room 12) (Some (OutputShort 12))
+    (cond (readable state) (refusal_in (step_in state mask signal early).answer) (Some (NotWellFormed 0))))
 
 -- what is left in lent memory
 abbrev pub state_stepped : Option Refusal → Stepped → List ℕ → List ℕ
-state_stepped none s state = state_of s.machine ++ drop 258 state
-state_stepped (some r) s state = state
+state_stepped None s state = state_of s.machine ++ drop 258 state
+state_stepped (Some r) s state = state
 
 abbrev pub answer_stepped : Option Refusal → ℕ → Stepped → List ℕ → List ℕ
-answer_stepped none clock s lent = answer_bytes clock s.answer ++ drop 12 lent
-answer_stepped (some r) clock s lent = lent
+answer_stepped None clock s lent = answer_bytes clock s.answer ++ drop 12 lent
+answer_stepped (Some r) clock s lent = lent
 
 -- what `tollsalmon_step` promises
 pub record StepsMachine (state : List ℕ) (mask signal early : ℕ) (lent : List ℕ) (answer place : ℕ) (stateLeft answerLeft : List ℕ) : Type 0 where

@@ -2,7 +2,7 @@
 -- who ran (0 nobody, 1 guest, 2 hypertask, 3 refused), the task or the refusal's number, the mark (0 none, 1 output, 2 budget used up), ignored 0 or 1.
 -- Assumes nothing.
 use Rattle.std.specs.Prelude.{◌≡◌, Bool, true, false, cond, List, [], ◌∷◌, ◌++◌, ℕ, zero, suc, ◌*◌, ◌/◌, ◌%◌, min, eqb, length, drop}
-use Rattle.std.proofs.Math.Option.{Option, none, some}
+use Rattle.std.specs.Option.{Option, None, Some}
 use Rattle.least.specs.Lists.{flat}
 use Rattle.refusals.specs.Refusals.{number_of, place_of}
 use Rattle.refusals.specs.declared.Refusal.{Refusal}
@@ -66,7 +66,7 @@ answer_to m records i = answer_bytes (machine_after m records i).clock (step_by 
 
 -- a state that can't be read is not well formed
 abbrev pub ticks_refusal : List ℕ → Option Refusal
-ticks_refusal state = cond (readable state) none (some (NotWellFormed 0))
+ticks_refusal state = cond (readable state) None (Some (NotWellFormed 0))
 
 -- a tick for each whole record that has room for its whole answer; none from a state that can't be read
 unfoldable pub ticks_taken : List ℕ → ℕ → ℕ → ℕ

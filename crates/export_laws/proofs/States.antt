@@ -3,7 +3,7 @@
 use mathlib.Core.Path.{◌≡◌, refl, sym, ap, ◌∙◌}
 use mathlib.Core.Bool.{Bool, true, false, cond}
 use mathlib.Core.List.{List, [], ◌∷◌, ◌++◌}
-use mathlib.Core.Option.{Option, none, some}
+use Rattle.std.specs.Option.{Option, None, Some}
 use Prim.Native.Nat.{ℕ, zero, suc, ◌/◌, ◌≤◌, ◌<◌, ◌^◌, min}
 use native.Mathlib.Omega.{arith}
 use borrow.Author.Tests.{ltb-false}
@@ -85,7 +85,7 @@ refused_ticks_keep state records lent answer place left out t h = go (readable s
     go false e p q = q ∙ rw e
 
 -- of one record at most one tick is taken
-place_few : (b : Bool) (x y : ℕ) → x ≡ 8 → refusal_place (cond b none (some (NotWellFormed 0))) (cond b (min (x / 8) (y / 12)) 0) ≤ 1
+place_few : (b : Bool) (x y : ℕ) → x ≡ 8 → refusal_place (cond b None (Some (NotWellFormed 0))) (cond b (min (x / 8) (y / 12)) 0) ≤ 1
 place_few true x y h = omega arith
 place_few false x y h = omega arith
 
@@ -100,14 +100,14 @@ refused_tick_keeps state records lent answer place left out t l r =
 -- ## A step and a run of one record
 
 -- what a step without a refusal has passed
-passed : (state : List ℕ) (mask signal early room : ℕ) → step_refusal state mask signal early room ≡ none
+passed : (state : List ℕ) (mask signal early room : ℕ) → step_refusal state mask signal early room ≡ None
     → (12 ≤ room) × (readable state ≡ true)
 unfolding step_refusal
 passed state mask signal early room h =
     go (ltb 1 early) (ltb room 12) refl (readable state) refl (refusal_in (step_in state mask signal early).answer) h
   where
     go : (a b : Bool) → ltb room 12 ≡ b → (c : Bool) → readable state ≡ c → (o : Option Refusal)
-        → cond a (some (RecordBytes 0)) (cond b (some (OutputShort 12)) (cond c o (some (NotWellFormed 0)))) ≡ none
+        → cond a (Some (RecordBytes 0)) (cond b (Some (OutputShort 12)) (cond c o (Some (NotWellFormed 0)))) ≡ None
         → (12 ≤ room) × (readable state ≡ true)
     go true b p c q o e = let z : ◌≡◌ {A = ℕ} 0 1 = cc in absurd (omega arith)
     go false true p c q o e = let z : ◌≡◌ {A = ℕ} 0 1 = cc in absurd (omega arith)
@@ -121,7 +121,7 @@ record_read mask signal early h = rw (number_front mask (signal ∷ early ∷ 0 
 
 module _
     (state : List ℕ) (mask signal early : ℕ) (lent : List ℕ)
-    (taken-one : step_refusal state mask signal early (length lent) ≡ none) (small : mask < 2 ^ 32) where
+    (taken-one : step_refusal state mask signal early (length lent) ≡ None) (small : mask < 2 ^ 32) where
   same_step : step_in state mask signal early ≡ step_by (machine_in state) (tick_at (tick_record mask signal early) 0)
   same_step = ap (step_by (machine_in state)) (sym (record_read mask signal early small))
 

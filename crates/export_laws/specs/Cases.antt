@@ -1,7 +1,7 @@
 -- Worked cases of the C interface, number by number: answers as 12 bytes, machines as 258 numbers, and what each function hands back.
 -- Assumes nothing.
 use Rattle.std.specs.Prelude.{ℕ, ◌^◌, ◌≡◌, Bool, true, false, List, [], ◌∷◌, ◌++◌, length, take, set, replicate}
-use Rattle.std.proofs.Math.Option.{none, some}
+use Rattle.std.specs.Option.{None, Some}
 use Rattle.refusals.specs.declared.Refusal.{Refusal}
 use Rattle.equations.specs.declared.Answer.TheVariants.{Accepted, Refused}
 use Rattle.machine.specs.declared.Stage.{Stage}
@@ -124,8 +124,8 @@ pub record FunctionsRight : Type 0 where
   pub unread_state : state_after p2_stray script (ticks_taken p2_stray 8 12) ≡ p2_stray
   pub unread_answers : answers_after p2_stray script (replicate 12 9) (ticks_taken p2_stray 8 12) ≡ replicate 12 9
   -- an accepted file, and a refused one
-  pub file_accepted : (refusal_number none ≡ 0) × (refusal_place none 108 ≡ 108)
-  pub file_refused : (refusal_number (some (Refusal.BodyPlace 2)) ≡ 15) × (refusal_place (some (Refusal.BodyPlace 2)) 108 ≡ 2)
+  pub file_accepted : (refusal_number None ≡ 0) × (refusal_place None 108 ≡ 108)
+  pub file_refused : (refusal_number (Some (Refusal.BodyPlace 2)) ≡ 15) × (refusal_place (Some (Refusal.BodyPlace 2)) 108 ≡ 2)
   -- the parts of P2's plan; of a refused file there is none
   pub table_part : table_in plan_of_p2 ≡ 10 ∷ 8 ∷ 3 ∷ 2 ∷ []
   pub script_part : script_in plan_of_p2 ≡ script

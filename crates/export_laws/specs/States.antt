@@ -1,7 +1,7 @@
 -- What reading a state means, without the tests that compute it; what refused ticks leave; and a step beside a run of one record.
 -- Assumes nothing.
 use Rattle.std.specs.Prelude.{◌≡◌, true, List, [], ◌∷◌, ◌++◌, ℕ, ◌<◌, ◌^◌, length, get_or, drop, replicate}
-use Rattle.std.proofs.Math.Option.{none}
+use Rattle.std.specs.Option.{None}
 use Rattle.refusals.specs.declared.Refusal.{Refusal}
 use Rattle.machine.specs.Rows.{no_row}
 use Rattle.machine.specs.declared.Row.{Row}
@@ -53,8 +53,8 @@ tick_record mask signal early = bytes_of mask ++ (signal ∷ early ∷ 0 ∷ 0 �
 -- a step that is taken leaves what a run of its one record leaves
 pub record LeavesSame (state : List ℕ) (mask signal early : ℕ) (lent : List ℕ) : Type 0 where
   pub taken : ticks_taken state (length (tick_record mask signal early)) (length lent) ≡ 1
-  pub states : state_stepped none (step_in state mask signal early) state ≡ state_after state (tick_record mask signal early) 1
-  pub answers : answer_stepped none (machine_in state).clock (step_in state mask signal early) lent
+  pub states : state_stepped None (step_in state mask signal early) state ≡ state_after state (tick_record mask signal early) 1
+  pub answers : answer_stepped None (machine_in state).clock (step_in state mask signal early) lent
       ≡ answers_after state (tick_record mask signal early) lent 1
 
 -- ## What is asked for does happen
@@ -65,5 +65,5 @@ pub record Met : Type 0 where
   pub run : TakesTicks p2_fresh (tick_record 32 0 0) (replicate 13 9) 0 1 p2_fresh
       (0 ∷ 0 ∷ 0 ∷ 0 ∷ 6 ∷ 0 ∷ 0 ∷ 0 ∷ 3 ∷ 10 ∷ 0 ∷ 0 ∷ 9 ∷ [])
   pub refused : IsRefused p2_fresh (tick_record 32 0 0) 0
-  pub no_refusal : step_refusal p2_fresh 1 0 0 13 ≡ none
+  pub no_refusal : step_refusal p2_fresh 1 0 0 13 ≡ None
   pub step : StepsMachine p2_fresh 1 0 0 (replicate 13 9) 0 0 p2_arrived (guest_at 0 ++ (9 ∷ []))

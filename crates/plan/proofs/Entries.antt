@@ -3,7 +3,7 @@
 use mathlib.Core.Path.{◌≡◌, refl, ap, ◌∙◌}
 use mathlib.Core.Bool.{Bool, true, false, cond}
 use mathlib.Core.List.{List, []}
-use mathlib.Core.Option.{Option, none, some}
+use Rattle.std.specs.Option.{Option, None, Some}
 use Prim.Native.Nat.{ℕ, zero, suc, ◌+◌, ◌≤◌, ◌<◌}
 use native.Mathlib.Omega.{arith}
 use borrow.Author.Tests.{ltb-false, eqb-true, eq-eqb, not-false}
@@ -23,11 +23,11 @@ use Rattle.plan.proofs.Tests.{or_inv, if_inv, at_inv}
 
 -- THE CHECKS, ONE AFTER THE OTHER
 module _ (f : List ℕ) where
-  pub stop_length : wrong_length (length f) ≡ true → read_refusal f ≡ some (FileLength (length f))
+  pub stop_length : wrong_length (length f) ≡ true → read_refusal f ≡ Some (FileLength (length f))
   unfolding read_refusal
   stop_length e = rw e
 
-  pub stop_count : wrong_length (length f) ≡ false → wrong_count (count f) (length f) ≡ true → read_refusal f ≡ some (Contents 0)
+  pub stop_count : wrong_length (length f) ≡ false → wrong_count (count f) (length f) ≡ true → read_refusal f ≡ Some (Contents 0)
   unfolding read_refusal
   stop_count e g = rw (e, g)
 
@@ -35,29 +35,29 @@ module _ (f : List ℕ) where
   unfolding read_refusal
   go_entries e g = rw (e, g)
 
-  pub stop_kind : (i : ℕ) → first_entry WrongKind f ≡ some i → entries_refusal f ≡ some (Contents (i + 1))
+  pub stop_kind : (i : ℕ) → first_entry WrongKind f ≡ Some i → entries_refusal f ≡ Some (Contents (i + 1))
   unfolding entries_refusal
   stop_kind i e = rw e
 
-  pub stop_place : (i : ℕ) → first_entry WrongKind f ≡ none → first_entry WrongPlace f ≡ some i → entries_refusal f ≡ some (BodyPlace (i + 1))
+  pub stop_place : (i : ℕ) → first_entry WrongKind f ≡ None → first_entry WrongPlace f ≡ Some i → entries_refusal f ≡ Some (BodyPlace (i + 1))
   unfolding entries_refusal
   stop_place i e g = rw (e, g)
 
-  pub stop_size : (i : ℕ) → first_entry WrongKind f ≡ none → first_entry WrongPlace f ≡ none → first_entry WrongSize f ≡ some i
-      → entries_refusal f ≡ some (BodySize (i + 1))
+  pub stop_size : (i : ℕ) → first_entry WrongKind f ≡ None → first_entry WrongPlace f ≡ None → first_entry WrongSize f ≡ Some i
+      → entries_refusal f ≡ Some (BodySize (i + 1))
   unfolding entries_refusal
   stop_size i e g h = rw (e, g, h)
 
-  pub go_records : first_entry WrongKind f ≡ none → first_entry WrongPlace f ≡ none → first_entry WrongSize f ≡ none
-      → entries_refusal f ≡ refuse_at (λ r. RecordBytes r) (first_wrong_record (body_of script_kind (sections_of f))) none
+  pub go_records : first_entry WrongKind f ≡ None → first_entry WrongPlace f ≡ None → first_entry WrongSize f ≡ None
+      → entries_refusal f ≡ refuse_at (λ r. RecordBytes r) (first_wrong_record (body_of script_kind (sections_of f))) None
   unfolding entries_refusal
   go_records e g h = rw (e, g, h)
 
-  pub no_part : (k : ℕ) (r : Refusal) → read_refusal f ≡ some r → part_of k f ≡ []
+  pub no_part : (k : ℕ) (r : Refusal) → read_refusal f ≡ Some r → part_of k f ≡ []
   unfolding part_of
   no_part k r e = rw e
 
-  pub the_part : (k : ℕ) → read_refusal f ≡ none → part_of k f ≡ body_of k (sections_of f)
+  pub the_part : (k : ℕ) → read_refusal f ≡ None → part_of k f ≡ body_of k (sections_of f)
   unfolding part_of
   the_part k e = rw e
 
@@ -65,12 +65,12 @@ module _ (f : List ℕ) where
   pub record Passed : Type 0 where
     pub length_right : wrong_length (length f) ≡ false
     pub count_right : wrong_count (count f) (length f) ≡ false
-    pub kinds : first_entry WrongKind f ≡ none
-    pub places : first_entry WrongPlace f ≡ none
-    pub sizes : first_entry WrongSize f ≡ none
-    pub records : first_wrong_record (body_of script_kind (sections_of f)) ≡ none
+    pub kinds : first_entry WrongKind f ≡ None
+    pub places : first_entry WrongPlace f ≡ None
+    pub sizes : first_entry WrongSize f ≡ None
+    pub records : first_wrong_record (body_of script_kind (sections_of f)) ≡ None
 
-  pub passed : read_refusal f ≡ none → Passed
+  pub passed : read_refusal f ≡ None → Passed
   unfolding read_refusal entries_refusal
   passed e =
       let l = if_inv _ _ _ e in
@@ -81,7 +81,7 @@ module _ (f : List ℕ) where
       let r = at_inv _ _ _ s.1 in
       record { length_right = l.0; count_right = n.0; kinds = k.0; places = p.0; sizes = s.0; records = r.0 }
 
-  pub all_passed : Passed → read_refusal f ≡ none
+  pub all_passed : Passed → read_refusal f ≡ None
   unfolding read_refusal entries_refusal
   all_passed p = rw (p.length_right, p.count_right, p.kinds, p.places, p.sizes, p.records)
 
@@ -92,12 +92,12 @@ module _ (f : List ℕ) where
       record { some = ltb-false _ _ b.0; few = ltb-false _ _ b.1; whole = ltb-false _ _ a.1 }
 
   -- a question that no entry answers with yes
-  pub no_entry : (a : Ask) → first_entry a f ≡ none → (i : ℕ) → i < count f → asked a f i ≡ false
+  pub no_entry : (a : Ask) → first_entry a f ≡ None → (i : ℕ) → i < count f → asked a f i ≡ false
   unfolding first_entry
   no_entry a e i h = where_none (asked a f) (count f) 0 e i (omega arith) (omega arith)
 
   -- an entry that was found is one of the file's
-  pub entry_in : (a : Ask) (i : ℕ) → first_entry a f ≡ some i → i < count f
+  pub entry_in : (a : Ask) (i : ℕ) → first_entry a f ≡ Some i → i < count f
   unfolding first_entry
   entry_in a i e = omega (arith, where_some (asked a f) (count f) 0 i e)
 
@@ -107,7 +107,7 @@ module _ (f : List ℕ) where
     pub inside : (entry_at f i).offset + (entry_at f i).length ≤ length f
     pub ends : i + 1 ≡ count f → (entry_at f i).offset + (entry_at f i).length ≡ length f
 
-  pub in_place : first_entry WrongPlace f ≡ none → (i : ℕ) → i < count f → InPlace i
+  pub in_place : first_entry WrongPlace f ≡ None → (i : ℕ) → i < count f → InPlace i
   unfolding asked
   in_place e i h =
       let a = or_inv _ _ (no_entry WrongPlace e i h) in
@@ -118,15 +118,15 @@ module _ (f : List ℕ) where
         ends = λ q. eqb-true _ _ (not-false _ (rw (eq-eqb _ _ q) at a.1));
       }
 
-  pub placed : Listed f → first_entry WrongPlace f ≡ none → Placed f
+  pub placed : Listed f → first_entry WrongPlace f ≡ None → Placed f
   placed l e = record { listed = l; within = λ i h. (in_place e i h).inside }
 
   -- THE BODY OF A KIND, by its entry
   abbrev pub body_at : Option ℕ → List ℕ
-  body_at (some i) = (section_at f i).body
-  body_at none = []
+  body_at (Some i) = (section_at f i).body
+  body_at None = []
 
-  picked : (b : Bool) (i : ℕ) (rest : List ℕ) (o : Option ℕ) → rest ≡ body_at o → cond b (section_at f i).body rest ≡ body_at (pick b (some i) o)
+  picked : (b : Bool) (i : ℕ) (rest : List ℕ) (o : Option ℕ) → rest ≡ body_at o → cond b (section_at f i).body rest ≡ body_at (pick b (Some i) o)
   picked true i rest o e = refl
   picked false i rest o e = e
 

@@ -2,7 +2,7 @@
 -- cited. Assumes nothing.
 use mathlib.Core.Path.{◌≡◌, refl, ap}
 use mathlib.Core.List.{List}
-use mathlib.Core.Option.{none}
+use Rattle.std.specs.Option.{None}
 use Prim.Native.Nat.{ℕ, zero, suc, ◌+◌, ◌*◌, ◌%◌, ◌≤◌}
 use native.Mathlib.Omega.{arith}
 use borrow.Author.Tests.{le-ltb}
@@ -49,7 +49,7 @@ longest = within 65536 (omega arith) (omega arith)
 -- ## The writer
 
 -- ticks that bring nothing have nothing wrong in them
-silent_right : (n : ℕ) → first_wrong_record (zeros n) ≡ none
+silent_right : (n : ℕ) → first_wrong_record (zeros n) ≡ None
 unfolding first_wrong_record wrong_record
 silent_right n =
     where_all (λ r. wrong_record (zeros n) r) _ 0 (λ r a b. rw (zero_at n (8 * r + 5), zero_at n (8 * r + 6), zero_at n (8 * r + 7)))
@@ -62,7 +62,7 @@ eights : (n : ℕ) → n % 8 ≡ 0 → length (zeros n) % 8 ≡ 0
 eights n h = rw (length-replicate {A = ℕ} n 0) h
 
 -- with 8,186 records it is the longest plan, 65,532 bytes; one more is refused, however many bytes are lent
-pub longest_written : told (write_refusal table (zeros 65488) 65532) ≡ none
+pub longest_written : told (write_refusal table (zeros 65488) 65532) ≡ None
 unfolding optional_count
 longest_written = ap told (go_write table (zeros 65488) 65532 65532 (total 65488) refl (eights 65488 refl) (silent_right 65488) refl refl)
 

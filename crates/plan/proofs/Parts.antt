@@ -3,7 +3,7 @@
 use mathlib.Core.Path.{◌≡◌, refl, sym, ap, subst, ◌∙◌}
 use mathlib.Core.Bool.{Bool, true, false, not, cond, ◌||◌}
 use mathlib.Core.List.{List, [], ◌∷◌}
-use mathlib.Core.Option.{Option, none, some}
+use Rattle.std.specs.Option.{Option, None, Some}
 use Prim.Native.Nat.{ℕ, suc, ◌+◌, ◌%◌, ◌≤◌, ◌<◌}
 use native.Mathlib.Nat.{lt_irrefl, pos_of_ne-zero}
 use native.Mathlib.Omega.{arith}
@@ -27,8 +27,8 @@ part_bytes f a n b j h =
     rw (get_or-take n (drop a f) j 0 e, get_or-drop a f j 0) (b (a + j) (omega (arith, length-take n (drop a f), length-drop a f)))
 
 body_at_bytes : (f : List ℕ) (o : Option ℕ) → AllBelow 256 f → AllBelow 256 (body_at f o)
-body_at_bytes f (some i) b = part_bytes f (entry_at f i).offset (entry_at f i).length b
-body_at_bytes f none b = λ j h. absurd (lt_irrefl 0 (omega arith))
+body_at_bytes f (Some i) b = part_bytes f (entry_at f i).offset (entry_at f i).length b
+body_at_bytes f None b = λ j h. absurd (lt_irrefl 0 (omega arith))
 
 pub body_bytes : (f : List ℕ) (k : ℕ) → AllBelow 256 f → AllBelow 256 (body_of k (sections_of f))
 body_bytes f k b = subst (AllBelow 256) (sym (body_is f k (first_entry (OfKind k) f) refl)) (body_at_bytes f (first_entry (OfKind k) f) b)

@@ -3,7 +3,7 @@
 use mathlib.Core.Path.{◌≡◌, sym, ap, ◌∙◌}
 use mathlib.Core.Bool.{false}
 use mathlib.Core.List.{List}
-use mathlib.Core.Option.{none}
+use Rattle.std.specs.Option.{None}
 use mathlib.Core.Logic.{⊎_elim}
 use Prim.Native.Nat.{ℕ, zero, suc, ◌+◌, ◌*◌, ◌≤◌, ◌<◌}
 use native.Mathlib.Nat.{lt_irrefl, eq-or-lt_of_le}
@@ -26,7 +26,7 @@ use Rattle.plan.proofs.ByKind.{kind_small}
 use Rattle.plan.proofs.Again.{sections_count, section_is, body_length, file_again}
 
 -- AN ACCEPTED FILE IS THE FILE OF A PLAN
-module _ (f : List ℕ) (bytes : AllBelow 256 f) (accepted : read_refusal f ≡ none) where
+module _ (f : List ℕ) (bytes : AllBelow 256 f) (accepted : read_refusal f ≡ None) where
   checks : Passed f
   checks = passed f accepted
 
@@ -110,11 +110,11 @@ module _ (ss : List Section) (plan : Plan ss) where
           (omega (arith, ends i h))
 
   -- a question that is wrong of each section is wrong of each entry
-  none_asked : (a : Ask) → ((i : ℕ) → i < length ss → asked a file i ≡ false) → first_entry a file ≡ none
+  none_asked : (a : Ask) → ((i : ℕ) → i < length ss → asked a file i ≡ false) → first_entry a file ≡ None
   unfolding first_entry
   none_asked a no_one = where_all (asked a file) (count file) 0 (λ i _ h. no_one i (omega (arith, counted)))
 
-  pub plan_accepted : read_refusal file ≡ none
+  pub plan_accepted : read_refusal file ≡ None
   unfolding asked
   plan_accepted =
       all_passed file
@@ -140,7 +140,7 @@ pub file_injective : (ss us : List Section) → Plan ss → Plan us → file_of 
 file_injective ss us p q e = sym (sections_back ss p) ∙ ap sections_of e ∙ sections_back us q
 
 -- EXACTLY ONE MEANING
-pub one_meaning : (f : List ℕ) → AllBelow 256 f → read_refusal f ≡ none → OneMeaning f
+pub one_meaning : (f : List ℕ) → AllBelow 256 f → read_refusal f ≡ None → OneMeaning f
 one_meaning f bytes accepted =
     let h : length f ≤ 65536 = omega (arith, (meaning_plan f bytes accepted).short, ap length (meaning_file f bytes accepted)) in
     record {

@@ -3,7 +3,7 @@
 use mathlib.Core.Path.{◌≡◌, refl, sym, ap, ◌∙◌}
 use mathlib.Core.Bool.{false, cond, ◌||◌}
 use mathlib.Core.List.{List, [], ◌∷◌, ◌++◌}
-use mathlib.Core.Option.{none}
+use Rattle.std.specs.Option.{None}
 use Prim.Native.Nat.{ℕ, zero, suc, ◌+◌, ◌*◌, ◌/◌, ◌≤◌, ◌<◌}
 use native.Mathlib.Nat.{lt_irrefl}
 use native.Mathlib.Omega.{arith}
@@ -24,7 +24,7 @@ mark zero h = refl
 mark (suc zero) h = refl
 mark (suc (suc b)) h = absurd (lt_irrefl 0 (omega arith))
 
-pub record_bytes : (s : List ℕ) (i : ℕ) → AllBelow 256 s → first_wrong_record s ≡ none → i < length s / 8
+pub record_bytes : (s : List ℕ) (i : ℕ) → AllBelow 256 s → first_wrong_record s ≡ None → i < length s / 8
     → tick_bytes (tick_at s i) ≡ take 8 (drop (8 * i) s)
 unfolding wrong_record first_wrong_record
 record_bytes s i bytes fine h =

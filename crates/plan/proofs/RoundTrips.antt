@@ -3,7 +3,7 @@
 use mathlib.Core.Path.{◌≡◌, refl, sym, ap, ◌∙◌}
 use mathlib.Core.Bool.{false}
 use mathlib.Core.List.{List, [], ◌∷◌, ◌++◌, append-nil}
-use mathlib.Core.Option.{Option, none, some}
+use Rattle.std.specs.Option.{Option, None, Some}
 use Prim.Native.Nat.{ℕ, zero, suc, ◌+◌, ◌*◌, ◌/◌, ◌%◌, ◌≤◌, ◌<◌}
 use native.Mathlib.Nat.{lt_irrefl}
 use native.Mathlib.Omega.{arith}
@@ -32,7 +32,7 @@ rows_size : (n : ℕ) → 4 ≤ n → n ≤ 128 → n % 4 ≡ 0 → wrong_rows (
 rows_size n a b c =
     rw (le-ltb (4 * n) 16 (omega arith), le-ltb 512 (4 * n) (omega arith), eq-eqb (4 * n % 16) 0 (omega arith))
 
-module _ (t s : List ℕ) (room : ℕ) (fine : write_refusal t s room ≡ none) where
+module _ (t s : List ℕ) (room : ℕ) (fine : write_refusal t s room ≡ None) where
   allows : Allowed t s room
   allows = allowed t s room fine
 
@@ -70,7 +70,7 @@ unfolding body_of
 optional_body k [] = refl
 optional_body k (x ∷ xs) = rw (eq-eqb k k refl)
 
-sections_right : (t s : List ℕ) (room : ℕ) → write_refusal t s room ≡ none → Right 0 (plan_of t s)
+sections_right : (t s : List ℕ) (room : ℕ) → write_refusal t s room ≡ None → Right 0 (plan_of t s)
 unfolding plan_of wrong_kind
 sections_right t s room fine = (refl, rows_right t s room fine, optional_right 1 script_kind s (λ h. (refl, script_right t s room fine h)))
 
@@ -86,7 +86,7 @@ rows_body : (t s : List ℕ) → body_of rows_kind (plan_of t s) ≡ table_bytes
 unfolding plan_of body_of
 rows_body t s = refl
 
-module _ (t s : List ℕ) (room : ℕ) (fine : write_refusal t s room ≡ none) where
+module _ (t s : List ℕ) (room : ℕ) (fine : write_refusal t s room ≡ None) where
   pub written_plan : Plan (plan_of t s)
   unfolding plan_file
   written_plan =
@@ -102,7 +102,7 @@ module _ (t s : List ℕ) (room : ℕ) (fine : write_refusal t s room ≡ none) 
       }
 
   -- every file that the writer makes is accepted
-  pub written_accepted : read_refusal (plan_file t s) ≡ none
+  pub written_accepted : read_refusal (plan_file t s) ≡ None
   unfolding plan_file
   written_accepted = plan_accepted (plan_of t s) written_plan
 
@@ -133,9 +133,9 @@ write_then_read t s lent after n w =
       script_part = ap (part_of script_kind) f ∙ written_script t s (length lent) e.0;
     }
   where
-    written : (o : Option Refusal) (m n : ℕ) → Written n ≡ writing_of o m → (o ≡ none) × (n ≡ m)
-    written (some r) m n e = let z : ◌≡◌ {A = ℕ} 0 1 = cc in absurd (lt_irrefl 0 (omega arith))
-    written none m n e = (refl, cc)
+    written : (o : Option Refusal) (m n : ℕ) → Written n ≡ writing_of o m → (o ≡ None) × (n ≡ m)
+    written (Some r) m n e = let z : ◌≡◌ {A = ℕ} 0 1 = cc in absurd (lt_irrefl 0 (omega arith))
+    written None m n e = (refl, cc)
 
 -- READ, THEN WRITE
 -- the sections of an accepted file, from its rows and its script
@@ -160,7 +160,7 @@ module _ (ss : List Section) (p : Plan ss) where
       ap wrong_table (numbers_length rows n)
       ∙ rw (le-ltb n 4 (omega (arith, rows_shape ss p)), le-ltb 128 n (omega (arith, rows_shape ss p)), eq-eqb (n % 4) 0 (omega (arith, rows_shape ss p)))
 
-module _ (f : List ℕ) (bytes : AllBelow 256 f) (accepted : read_refusal f ≡ none) where
+module _ (f : List ℕ) (bytes : AllBelow 256 f) (accepted : read_refusal f ≡ None) where
   plan : Plan (sections_of f)
   plan = meaning_plan f bytes accepted
 
@@ -168,7 +168,7 @@ module _ (f : List ℕ) (bytes : AllBelow 256 f) (accepted : read_refusal f ≡ 
   pub accepted_rows : (16 ≤ length (part_of rows_kind f)) × (length (part_of rows_kind f) ≤ 512) × (length (part_of rows_kind f) % 16 ≡ 0)
   accepted_rows = rw (the_part f rows_kind accepted) (rows_shape (sections_of f) plan)
 
-  pub accepted_script : (length (part_of script_kind f) % 8 ≡ 0) × (first_wrong_record (part_of script_kind f) ≡ none)
+  pub accepted_script : (length (part_of script_kind f) % 8 ≡ 0) × (first_wrong_record (part_of script_kind f) ≡ None)
   accepted_script = rw (the_part f script_kind accepted) (script_eights (sections_of f) plan.sizes, plan.records)
 
   -- every accepted file, written again from its parts, is the same bytes
@@ -181,7 +181,7 @@ module _ (f : List ℕ) (bytes : AllBelow 256 f) (accepted : read_refusal f ≡ 
       ∙ meaning_file f bytes accepted
 
   -- and the writer refuses none of it where there is room
-  pub read_writable : (room : ℕ) → length f ≤ room → write_refusal (table_of (part_of rows_kind f)) (part_of script_kind f) room ≡ none
+  pub read_writable : (room : ℕ) → length f ≤ room → write_refusal (table_of (part_of rows_kind f)) (part_of script_kind f) room ≡ None
   read_writable room h =
       let t = table_of (part_of rows_kind f) in
       let s = part_of script_kind f in

@@ -3,7 +3,7 @@
 use mathlib.Core.Path.{◌≡◌, refl, ap}
 use mathlib.Core.Bool.{Bool, true, false, not, ◌||◌, or-true}
 use mathlib.Core.List.{List}
-use mathlib.Core.Option.{Option, none, some}
+use Rattle.std.specs.Option.{Option, None, Some}
 use Prim.Native.Nat.{ℕ, suc, ◌+◌, ◌-◌, ◌*◌, ◌≤◌, ◌<◌}
 use native.Mathlib.Nat.{lt_irrefl, pos_of_ne-zero}
 use native.Mathlib.Omega.{arith}
@@ -23,30 +23,30 @@ or_inv true b e = let z : ◌≡◌ {A = ℕ} 0 1 = cc in absurd (omega arith)
 or_inv false b e = (refl, e)
 
 -- ANSWERS
-pub found_some : (o : Option ℕ) (k : ℕ) → At k ≡ found_of o → o ≡ some k
-found_some none k e = cc
-found_some (some i) k e = cc
+pub found_some : (o : Option ℕ) (k : ℕ) → At k ≡ found_of o → o ≡ Some k
+found_some None k e = cc
+found_some (Some i) k e = cc
 
-pub found_none : (o : Option ℕ) → Nothing ≡ found_of o → o ≡ none
-found_none none e = refl
-found_none (some i) e = cc
+pub found_none : (o : Option ℕ) → Nothing ≡ found_of o → o ≡ None
+found_none None e = refl
+found_none (Some i) e = cc
 
-pub answer_some : (o : Option Refusal) (r : Refusal) → Refused r ≡ answer_of o → o ≡ some r
-answer_some none r e = cc
-answer_some (some q) r e = cc
+pub answer_some : (o : Option Refusal) (r : Refusal) → Refused r ≡ answer_of o → o ≡ Some r
+answer_some None r e = cc
+answer_some (Some q) r e = cc
 
-pub answer_none : (o : Option Refusal) → Accepted ≡ answer_of o → o ≡ none
-answer_none none e = refl
-answer_none (some q) e = cc
+pub answer_none : (o : Option Refusal) → Accepted ≡ answer_of o → o ≡ None
+answer_none None e = refl
+answer_none (Some q) e = cc
 
 -- a check that was passed
-pub if_inv : (b : Bool) (r : Refusal) (next : Option Refusal) → refuse_if b r next ≡ none → (b ≡ false) × (next ≡ none)
+pub if_inv : (b : Bool) (r : Refusal) (next : Option Refusal) → refuse_if b r next ≡ None → (b ≡ false) × (next ≡ None)
 if_inv true r next e = let z : ◌≡◌ {A = ℕ} 0 1 = cc in absurd (omega arith)
 if_inv false r next e = (refl, e)
 
-pub at_inv : (r : ℕ → Refusal) (o : Option ℕ) (next : Option Refusal) → refuse_at r o next ≡ none → (o ≡ none) × (next ≡ none)
-at_inv r (some k) next e = let z : ◌≡◌ {A = ℕ} 0 1 = cc in absurd (omega arith)
-at_inv r none next e = (refl, e)
+pub at_inv : (r : ℕ → Refusal) (o : Option ℕ) (next : Option Refusal) → refuse_at r o next ≡ None → (o ≡ None) × (next ≡ None)
+at_inv r (Some k) next e = let z : ◌≡◌ {A = ℕ} 0 1 = cc in absurd (omega arith)
+at_inv r None next e = (refl, e)
 
 -- equal arguments
 pub same3 : {A B C D : Type 0} (g : A → B → C → D) {a a' : A} {b b' : B} {c c' : C} → a ≡ a' → b ≡ b' → c ≡ c'

@@ -3,7 +3,7 @@
 use mathlib.Core.Path.{◌≡◌, refl, sym, ap, ◌∙◌}
 use mathlib.Core.Bool.{Bool, true, false, cond}
 use mathlib.Core.List.{List, [], ◌∷◌, ◌++◌, append-nil, append_assoc}
-use mathlib.Core.Option.{Option, none, some}
+use Rattle.std.specs.Option.{Option, None, Some}
 use Prim.Native.Nat.{ℕ, suc, ◌+◌, ◌*◌, ◌%◌, ◌≤◌}
 use native.Mathlib.Omega.{arith}
 use borrow.Author.Tests.{ltb-false, eqb-true, not-false, eq-eqb, ne_eqb}
@@ -91,16 +91,16 @@ plan_length t s =
 
 -- THE CHECKS, ONE AFTER THE OTHER
 module _ (t s : List ℕ) (room : ℕ) where
-  pub stop_table : wrong_table (length t) ≡ true → write_refusal t s room ≡ some (TableLength (length t))
+  pub stop_table : wrong_table (length t) ≡ true → write_refusal t s room ≡ Some (TableLength (length t))
   unfolding write_refusal
   stop_table e = rw e
 
-  pub stop_eights : wrong_table (length t) ≡ false → (length s % 8 ≡ 0 → ⊥) → write_refusal t s room ≡ some (BodySize 2)
+  pub stop_eights : wrong_table (length t) ≡ false → (length s % 8 ≡ 0 → ⊥) → write_refusal t s room ≡ Some (BodySize 2)
   unfolding write_refusal
   stop_eights e g = rw (e, ne_eqb _ _ g)
 
-  pub stop_record : (r : ℕ) → wrong_table (length t) ≡ false → length s % 8 ≡ 0 → first_wrong_record s ≡ some r
-      → write_refusal t s room ≡ some (RecordBytes r)
+  pub stop_record : (r : ℕ) → wrong_table (length t) ≡ false → length s % 8 ≡ 0 → first_wrong_record s ≡ Some r
+      → write_refusal t s room ≡ Some (RecordBytes r)
   unfolding write_refusal
   stop_record r e g h = rw (e, eq-eqb _ _ g, h)
 
@@ -109,20 +109,20 @@ module _ (t s : List ℕ) (room : ℕ) where
     whole : length (plan_file t s) ≡ need
     whole = plan_length t s ∙ sym counted
 
-    pub stop_total : wrong_table (length t) ≡ false → length s % 8 ≡ 0 → first_wrong_record s ≡ none → wrong_length need ≡ true
-        → write_refusal t s room ≡ some (FileLength need)
+    pub stop_total : wrong_table (length t) ≡ false → length s % 8 ≡ 0 → first_wrong_record s ≡ None → wrong_length need ≡ true
+        → write_refusal t s room ≡ Some (FileLength need)
     unfolding write_refusal
     stop_total e g h k = rw (e, eq-eqb _ _ g, h, whole) (rw k)
 
-    pub stop_room : wrong_table (length t) ≡ false → length s % 8 ≡ 0 → first_wrong_record s ≡ none → wrong_length need ≡ false
+    pub stop_room : wrong_table (length t) ≡ false → length s % 8 ≡ 0 → first_wrong_record s ≡ None → wrong_length need ≡ false
         → ltb room need ≡ true
-        → write_refusal t s room ≡ some (OutputShort need)
+        → write_refusal t s room ≡ Some (OutputShort need)
     unfolding write_refusal
     stop_room e g h k l = rw (e, eq-eqb _ _ g, h, whole) (rw (k, l))
 
-    pub go_write : wrong_table (length t) ≡ false → length s % 8 ≡ 0 → first_wrong_record s ≡ none → wrong_length need ≡ false
+    pub go_write : wrong_table (length t) ≡ false → length s % 8 ≡ 0 → first_wrong_record s ≡ None → wrong_length need ≡ false
         → ltb room need ≡ false
-        → write_refusal t s room ≡ none
+        → write_refusal t s room ≡ None
     unfolding write_refusal
     go_write e g h k l = rw (e, eq-eqb _ _ g, h, whole) (rw (k, l))
 
@@ -132,7 +132,7 @@ module _ (t s : List ℕ) (room : ℕ) where
     pub few : length t ≤ 128
     pub fours : length t % 4 ≡ 0
     pub eights : length s % 8 ≡ 0
-    pub records : first_wrong_record s ≡ none
+    pub records : first_wrong_record s ≡ None
     pub total : length (plan_file t s) ≤ 65536
     pub fits : length (plan_file t s) ≤ room
 
@@ -142,15 +142,15 @@ module _ (t s : List ℕ) (room : ℕ) where
       let b = or_inv _ _ a.0 in
       (ltb-false _ _ b.0, ltb-false _ _ b.1, eqb-true _ _ (not-false _ a.1))
 
-  pub allowed : write_refusal t s room ≡ none → Allowed
+  pub allowed : write_refusal t s room ≡ None → Allowed
   unfolding write_refusal
   allowed e =
       let a = if_inv _ _ _ e in
       let b = if_inv _ _ _ a.1 in
       let c = at_inv _ _ _ b.1 in
       let n = length (plan_file t s) in
-      let d = if_inv (wrong_length n) (FileLength n) (refuse_if (ltb room n) (OutputShort n) none) c.1 in
-      let g = if_inv (ltb room n) (OutputShort n) none d.1 in
+      let d = if_inv (wrong_length n) (FileLength n) (refuse_if (ltb room n) (OutputShort n) None) c.1 in
+      let g = if_inv (ltb room n) (OutputShort n) None d.1 in
       let h = table_right a.0 in
       record {
         some = h.0;
@@ -164,14 +164,14 @@ module _ (t s : List ℕ) (room : ℕ) where
 
 -- THE PROMISE, each way out
 module _ (t s lent : List ℕ) where
-  pub nothing_written : (r : Refusal) → write_refusal t s (length lent) ≡ some r → Writes t s lent (Refused r) lent
+  pub nothing_written : (r : Refusal) → write_refusal t s (length lent) ≡ Some r → Writes t s lent (Refused r) lent
   nothing_written r e =
       record {
         answers = sym (ap (λ (o : Option Refusal). writing_of o (length (plan_file t s))) e);
         leaves = sym (ap (λ (o : Option Refusal). after_writing o (plan_file t s) lent) e);
       }
 
-  pub file_written : (n : ℕ) (after : List ℕ) → write_refusal t s (length lent) ≡ none → n ≡ file_length (length t) (length s)
+  pub file_written : (n : ℕ) (after : List ℕ) → write_refusal t s (length lent) ≡ None → n ≡ file_length (length t) (length s)
       → after ≡ sets lent 0 (plan_file t s) → Writes t s lent (Written n) after
   file_written n after e p q =
       record {

@@ -1,7 +1,7 @@
 -- Worked cases of the plan file: document 01's plan of P2 with eight records, whole and damaged, and the writer's refusals.
 -- Assumes nothing.
 use Rattle.std.specs.Prelude.{◌≡◌, Bool, true, false, List, [], ◌∷◌, ◌++◌, ℕ, ◌+◌, take, set, replicate}
-use Rattle.std.proofs.Math.Option.{Option, none, some}
+use Rattle.std.specs.Option.{Option, None, Some}
 use Rattle.refusals.specs.declared.Refusal.{Refusal}
 use Rattle.refusals.specs.Refusals.{Line, line, line_of}
 use Rattle.plan.specs.declared.Tick.{Tick}
@@ -14,11 +14,11 @@ use Rattle.plan.specs.Writer.{write_refusal}
 
 -- a refusal by its number and its place
 abbrev pub told : Option Refusal → Option Line
-told (some r) = some (line_of r)
-told none = none
+told (Some r) = Some (line_of r)
+told None = None
 
 abbrev pub refused : ℕ → ℕ → Option Line
-refused n p = some (line n p)
+refused n p = Some (line n p)
 
 -- "the plan of P2 with eight records, the first with mask 1 and all else zero (108 bytes, bodies at 28 and 44)"
 abbrev pub table : List ℕ
@@ -55,11 +55,11 @@ read f l = record { file = f; says = l }
 
 abbrev pub reads : List Read
 reads =
-    read plan_of_p2 none
+    read plan_of_p2 None
     -- with no script, 32 bytes; 32 rows, whatever their fields; an early mark of 1
-    ∷ read (rows_alone 16 0 rows_of_p2) none
-    ∷ read (rows_alone 0 2 (replicate 512 0)) none
-    ∷ read (set plan_of_p2 49 1) none
+    ∷ read (rows_alone 16 0 rows_of_p2) None
+    ∷ read (rows_alone 0 2 (replicate 512 0)) None
+    ∷ read (set plan_of_p2 49 1) None
     -- 13
     ∷ read [] (refused 13 0)
     ∷ read (take 3 plan_of_p2) (refused 13 3)
@@ -101,9 +101,9 @@ write t s n l = record { rows = t; ticks = s; room = n; says = l }
 
 abbrev pub writes : List Write
 writes =
-    write table script 108 none
-    ∷ write table [] 32 none
-    ∷ write (replicate 128 0) [] 528 none
+    write table script 108 None
+    ∷ write table [] 32 None
+    ∷ write (replicate 128 0) [] 528 None
     -- 1 before 16
     ∷ write [] (take 7 script) 108 (refused 1 0)
     ∷ write (1 ∷ table) script 108 (refused 1 5)

@@ -1,7 +1,7 @@
 -- The plan file: document 01, "The plan file", and its refusals 13 to 17.
 -- Assumes nothing.
 use Rattle.std.specs.Prelude.{Bool, not, cond, ◌&&◌, ◌||◌, List, [], ◌∷◌, ◌++◌, ℕ, zero, suc, ◌+◌, ◌*◌, ◌/◌, ◌%◌, ltb, eqb, length, get_or, take, drop}
-use Rattle.std.proofs.Math.Option.{Option, none, some}
+use Rattle.std.specs.Option.{Option, None, Some}
 use Rattle.least.specs.Search.{first_where}
 use Rattle.refusals.specs.declared.Refusal.{Refusal}
 use Rattle.refusals.specs.declared.Refusal.TheVariants.{FileLength, Contents, BodyPlace, BodySize, RecordBytes}
@@ -130,7 +130,7 @@ entries_refusal f =
     (refuse_at (λ i. BodyPlace (i + 1)) (first_entry WrongPlace f)
     (refuse_at (λ i. BodySize (i + 1)) (first_entry WrongSize f)
     (refuse_at (λ r. RecordBytes r) (first_wrong_record (body_of script_kind (sections_of f)))
-    none)))
+    None)))
 
 -- the reader's refusal, or none
 unfoldable pub read_refusal : List ℕ → Option Refusal
@@ -141,8 +141,8 @@ read_refusal f =
 
 -- "hands back each body as a part of the caller's own bytes", empty on refusal and where it is missing
 abbrev pub part_if : Option Refusal → List ℕ → List ℕ
-part_if (some r) p = []
-part_if none p = p
+part_if (Some r) p = []
+part_if None p = p
 
 unfoldable pub part_of : ℕ → List ℕ → List ℕ
 part_of k f = part_if (read_refusal f) (body_of k (sections_of f))

@@ -1,7 +1,7 @@
 -- Checks one after the other: the first that fails gives its refusal.
 -- Assumes nothing.
 use Rattle.std.specs.Prelude.{Bool, true, false, ℕ}
-use Rattle.std.proofs.Math.Option.{Option, none, some}
+use Rattle.std.specs.Option.{Option, None, Some}
 use Rattle.refusals.specs.declared.Refusal.{Refusal}
 use Rattle.plan.specs.declared.Answer.{Answer}
 use Rattle.plan.specs.declared.Answer.TheVariants.{Accepted, Refused}
@@ -10,19 +10,19 @@ use Rattle.plan.specs.declared.Found.TheVariants.{At, Nothing}
 
 -- the refusal where the test passes, or what comes next
 abbrev pub refuse_if : Bool → Refusal → Option Refusal → Option Refusal
-refuse_if true r next = some r
+refuse_if true r next = Some r
 refuse_if false r next = next
 
 -- the refusal at the first wrong place, if there is one, or what comes next
 abbrev pub refuse_at : (ℕ → Refusal) → Option ℕ → Option Refusal → Option Refusal
-refuse_at r (some k) next = some (r k)
-refuse_at r none next = next
+refuse_at r (Some k) next = Some (r k)
+refuse_at r None next = next
 
 -- as the code answers them
 abbrev pub answer_of : Option Refusal → Answer
-answer_of (some r) = Refused r
-answer_of none = Accepted
+answer_of (Some r) = Refused r
+answer_of None = Accepted
 
 abbrev pub found_of : Option ℕ → Found
-found_of (some k) = At k
-found_of none = Nothing
+found_of (Some k) = At k
+found_of None = Nothing

@@ -1,7 +1,7 @@
 -- The writer: document 01, "The writer checks 1, then 16 and 17 on its script, 13 on the total, 18".
 -- Assumes nothing.
 use Rattle.std.specs.Prelude.{◌≡◌, Bool, not, ◌||◌, List, [], ◌∷◌, ◌++◌, ℕ, ◌%◌, ltb, eqb, length, drop}
-use Rattle.std.proofs.Math.Option.{Option, none, some}
+use Rattle.std.specs.Option.{Option, None, Some}
 use Rattle.refusals.specs.declared.Refusal.{Refusal}
 use Rattle.refusals.specs.declared.Refusal.TheVariants.{TableLength, FileLength, BodySize, RecordBytes, OutputShort}
 use Rattle.plan.specs.declared.Writing.{Writing}
@@ -38,17 +38,17 @@ write_refusal table script room =
     (refuse_at (λ r. RecordBytes r) (first_wrong_record script)
     (refuse_if (wrong_length (length (plan_file table script))) (FileLength (length (plan_file table script)))
     (refuse_if (ltb room (length (plan_file table script))) (OutputShort (length (plan_file table script)))
-    none))))
+    None))))
 
 -- the answer: the file's length, or the refusal
 abbrev pub writing_of : Option Refusal → ℕ → Writing
-writing_of (some r) n = Refused r
-writing_of none n = Written n
+writing_of (Some r) n = Refused r
+writing_of None n = Written n
 
 -- the lent bytes afterwards: "a refused write writes nothing, and an accepted one nothing past the file"
 abbrev pub after_writing : Option Refusal → List ℕ → List ℕ → List ℕ
-after_writing (some r) file lent = lent
-after_writing none file lent = file ++ drop (length file) lent
+after_writing (Some r) file lent = lent
+after_writing None file lent = file ++ drop (length file) lent
 
 -- what `write` promises
 pub record Writes (table script lent : List ℕ) (answer : Writing) (after : List ℕ) : Type 0 where

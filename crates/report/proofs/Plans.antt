@@ -2,7 +2,7 @@
 use mathlib.Core.Path.{◌≡◌, ap, ◌∙◌}
 use mathlib.Core.Bool.{Bool, true, false, cond}
 use mathlib.Core.List.{List}
-use mathlib.Core.Option.{none}
+use Rattle.std.specs.Option.{None}
 use Prim.Native.Nat.{ℕ, zero, suc, ◌/◌, ◌%◌, ◌≤◌, ◌<◌}
 use native.Mathlib.Omega.{arith}
 use lib.Dec.{eqb, ltb}
@@ -33,7 +33,7 @@ body_length k f (suc n) i = go (eqb (entry_at f i).kind k) (body_length k f n (s
     go true h = simp (length-take, length-drop) (omega arith)
     go false h = h
 
-module _ (f : List ℕ) (accepted : read_refusal f ≡ none) where
+module _ (f : List ℕ) (accepted : read_refusal f ≡ None) where
   pub part_short : (k : ℕ) → length (part_of k f) ≤ 65536
   unfolding sections_of
   part_short k =

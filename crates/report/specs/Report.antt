@@ -1,7 +1,7 @@
 -- The whole text of a plan's run, from the file's bytes: document 01, the end of "Cases". The reader, the analysis, the start and the tick rule are
 -- those of their own crates; the totals are counted from the ticks taken. Assumes nothing.
 use Rattle.std.specs.Prelude.{Bool, true, false, List, [], ◌∷◌, ◌++◌, ◌≡◌, ℕ, zero, suc, ◌+◌, ◌/◌, leb, length, drop}
-use Rattle.std.proofs.Math.Option.{Option, none, some}
+use Rattle.std.specs.Option.{Option, None, Some}
 use Rattle.refusals.specs.declared.Refusal.{Refusal}
 use Rattle.equations.specs.Table.{T, D, C, K}
 use Rattle.equations.specs.Analysis.{three_of}
@@ -64,8 +64,8 @@ unfoldable pub table_text : List ℕ → List ℕ → List ℕ
 table_text s script = answer_by s script (start_answer s)
 
 abbrev pub plan_by : List ℕ → Option Refusal → List ℕ
-plan_by file (some refusal) = refuse_line refusal
-plan_by file none = table_text (table_of (part_of rows_kind file)) (part_of script_kind file)
+plan_by file (Some refusal) = refuse_line refusal
+plan_by file None = table_text (table_of (part_of rows_kind file)) (part_of script_kind file)
 
 unfoldable pub text_of : List ℕ → List ℕ
 text_of file = plan_by file (read_refusal file)

@@ -3,7 +3,7 @@
 use mathlib.Core.Path.{◌≡◌, refl, ap, ◌∙◌}
 use mathlib.Core.Bool.{true}
 use mathlib.Core.List.{List, [], ◌∷◌, ◌++◌}
-use mathlib.Core.Option.{Option, none, some}
+use Rattle.std.specs.Option.{Option, None, Some}
 use Prim.Native.Nat.{ℕ, zero, suc, ◌+◌, ◌*◌, ◌/◌, ◌≤◌, ◌<◌}
 use native.Mathlib.Nat.{le_trans}
 use native.Mathlib.Omega.{arith}
@@ -131,8 +131,8 @@ unfolding text_of
 no_text_longer file h = go (read_refusal file) refl (read_place file h)
   where
     go : (o : Option Refusal) → read_refusal file ≡ o → CountedPlace o → length (plan_by file o) ≤ 655360
-    go (some refusal) e p = omega (arith, refuse_short refusal p)
-    go none e p =
+    go (Some refusal) e p = omega (arith, refuse_short refusal p)
+    go None e p =
         let rows-part = part_short file e rows_kind in
         table_short _ _ (omega (arith, numbers_length (part_of rows_kind file) (length (part_of rows_kind file) / 4))) (part_short file e script_kind)
 

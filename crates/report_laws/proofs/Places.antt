@@ -3,7 +3,7 @@ use mathlib.Core.Path.{◌≡◌, refl}
 use mathlib.Core.Bool.{Bool, true, false}
 use mathlib.Core.List.{List}
 use mathlib.Core.Logic.{⊎_elim}
-use mathlib.Core.Option.{Option, none, some}
+use Rattle.std.specs.Option.{Option, None, Some}
 use Prim.Native.Nat.{ℕ, ◌+◌, ◌/◌, ◌≤◌, ◌<◌}
 use native.Mathlib.Omega.{arith}
 use lib.ListN.{length}
@@ -31,27 +31,27 @@ use Rattle.report.proofs.Plans.{body_length}
 -- ## A refused plan
 
 abbrev pub CountedPlace : Option Refusal → Type 0
-CountedPlace none = Unit {0}
-CountedPlace (some refusal) = place_of refusal ≤ last_place
+CountedPlace None = Unit {0}
+CountedPlace (Some refusal) = place_of refusal ≤ last_place
 
 place_if : (b : Bool) (r : Refusal) (next : Option Refusal) → place_of r ≤ last_place → (b ≡ false → CountedPlace next)
     → CountedPlace (refuse_if b r next)
 place_if true r next p q = p
 place_if false r next p q = q refl
 
-place_at : (r : ℕ → Refusal) (o : Option ℕ) (next : Option Refusal) → ((k : ℕ) → o ≡ some k → place_of (r k) ≤ last_place) → CountedPlace next
+place_at : (r : ℕ → Refusal) (o : Option ℕ) (next : Option Refusal) → ((k : ℕ) → o ≡ Some k → place_of (r k) ≤ last_place) → CountedPlace next
     → CountedPlace (refuse_at r o next)
-place_at r (some k) next p q = p k refl
-place_at r none next p q = q
+place_at r (Some k) next p q = p k refl
+place_at r None next p q = q
 
 module _ (f : List ℕ) where
   -- an entry of the file, of which there are at most 2
-  entry_place : (r : ℕ → Refusal) → ((k : ℕ) → place_of (r k) ≡ k + 1) → (o : Option ℕ) → ((k : ℕ) → o ≡ some k → k < count f)
+  entry_place : (r : ℕ → Refusal) → ((k : ℕ) → place_of (r k) ≡ k + 1) → (o : Option ℕ) → ((k : ℕ) → o ≡ Some k → k < count f)
       → (next : Option Refusal) → Listed f → CountedPlace next → CountedPlace (refuse_at r o next)
   entry_place r g o within next l = place_at r o next (λ k e. omega (arith, g k, within k e, l.few))
 
   -- a record of its script
-  record_place : (k : ℕ) → first_wrong_record (body_of script_kind (sections_of f)) ≡ some k → k ≤ length f
+  record_place : (k : ℕ) → first_wrong_record (body_of script_kind (sections_of f)) ≡ Some k → k ≤ length f
   unfolding first_wrong_record sections_of
   record_place k e = omega (arith, (where_some _ (length (body_of script_kind (sections_of f)) / 8) 0 k e).below, body_length script_kind f (count f) 0)
 

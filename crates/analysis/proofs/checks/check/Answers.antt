@@ -1,5 +1,5 @@
 use mathlib.Core.Path.{◌≡◌, sym, ◌∙◌}
-use mathlib.Core.Option.{none, some}
+use Rattle.std.specs.Option.{None, Some}
 use native.Mathlib.Omega.{arith}
 use lib.ListN.{length}
 use Rattle.least.specs.Search.{first_where}
@@ -13,10 +13,10 @@ use Rattle.analysis.proofs.checks.check.Goals as goal
 
 -- what the two searches found
 no_field : (c : In_default) → first_where (bad_field c.args.table.now) 0
-    (length c.args.table.now) ≡ none
+    (length c.args.table.now) ≡ None
 no_field c = place_none (first_where _ _ _) (sym c.in_default.is ∙ c.bad_field.ensures)
 
-late_row : (c : In-Here-bad_deadline) → first_where (bad_deadline c.args.table.now) 0 (rows c.args.table.now) ≡ some c.in-Here-bad_deadline.j
+late_row : (c : In-Here-bad_deadline) → first_where (bad_deadline c.args.table.now) 0 (rows c.args.table.now) ≡ Some c.in-Here-bad_deadline.j
 late_row c = place_some (first_where _ _ _) _ (sym c.in-Here-bad_deadline.is ∙ c.bad_deadline.ensures)
 
 pub returns-then-m-lt4 : goal.returns-then-m-lt4
@@ -60,7 +60,7 @@ returns-in-Here-bad_deadline c = let s = c.args.table.now in
 pub returns : goal.returns
 returns c = let s = c.args.table.now in
     let f = no_field (goal.at.returns c).In_default in
-    let d : first_where (bad_deadline s) 0 (rows s) ≡ none = place_none (first_where _ _ _) (sym c.in_default-bad_deadline.is
+    let d : first_where (bad_deadline s) 0 (rows s) ≡ None = place_none (first_where _ _ _) (sym c.in_default-bad_deadline.is
     ∙ c.bad_deadline.ensures) in
     record {
       value = sym (table_fine s (length_fine s (omega arith) (omega arith) (omega arith)) f d);

@@ -1,5 +1,5 @@
 use mathlib.Core.Path.{◌≡◌, ap, sym, ◌∙◌}
-use mathlib.Core.Option.{some}
+use Rattle.std.specs.Option.{Some}
 use Prim.Native.Nat.{◌-◌, max}
 use native.Mathlib.Omega.{arith}
 use Rattle.equations.specs.Table.{T}
@@ -13,7 +13,7 @@ use Rattle.analysis.proofs.guest.guest_of.Goals as goal
 
 -- WA(i), as it was found
 guest_begins : (c : In-At) → WA c.args.table.now
-    c.args.i ≡ some c.in-At.a
+    c.args.i ≡ Some c.in-At.a
 guest_begins c = found_some (WA _ _) _ (sym c.in-At.is ∙ c.window_begun_by_guest.ensures)
 
 pub returns-in_default : goal.returns-in_default
@@ -31,7 +31,7 @@ pub returns : goal.returns
 returns c = let s = c.args.table.now in
     let i = c.args.i in
     let e = c.in-At-window_begun_by_hypertask.e in
-    let we : WE s i ≡ some e = found_some (WE s i) _ (sym c.in-At-window_begun_by_hypertask.is ∙ c.window_begun_by_hypertask.ensures) in
+    let we : WE s i ≡ Some e = found_some (WE s i) _ (sym c.in-At-window_begun_by_hypertask.is ∙ c.window_begun_by_hypertask.ensures) in
     let o : c.cell-2.result ≡ E s i = c.cell-2.ensures ∙ c.requires.1.at i c.requires.2 in
     let m : c.larger.result ≡ max c.in-At.a (e - (T s i - E s i)) = omega arith in
     ap Is m ∙ sym (guest_is s i _ _ (guest_begins (goal.at.returns c).In-At) we)

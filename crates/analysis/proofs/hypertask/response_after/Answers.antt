@@ -1,5 +1,5 @@
 use mathlib.Core.Path.{◌≡◌, ap, sym, ◌∙◌}
-use mathlib.Core.Option.{some}
+use Rattle.std.specs.Option.{Some}
 use Prim.Native.Nat.{ℕ, suc, ◌+◌, ◌-◌, ◌*◌}
 use native.Mathlib.Omega.{arith}
 use Rattle.equations.specs.Table.{T, K}
@@ -13,7 +13,7 @@ use Rattle.analysis.proofs.hypertask.response_after.Goals as goal
 
 -- the start that was found, as the definition has it
 started : (c : In-At) → start c.args.table.now
-    c.args.i (suc c.args.before) ≡ some c.in-At.w
+    c.args.i (suc c.args.before) ≡ Some c.in-At.w
 started c = found_some _ _ (sym c.in-At.is ∙ c.start_after.ensures)
 
 back : (c : After-cell-2) → c.args.before * c.cell-2.result
@@ -36,4 +36,4 @@ pub returns : goal.returns
 returns c = let s = c.args.table.now in
     let e : c.less.result ≡ c.in-At.w + K s c.args.i - c.args.before * T s c.args.i =
     omega (arith, back (goal.at.returns c).After-cell-2) in
-    ap found_of (ap some e ∙ sym (job_after s c.args.i c.args.before _ (started (goal.at.returns c).In-At)))
+    ap found_of (ap Some e ∙ sym (job_after s c.args.i c.args.before _ (started (goal.at.returns c).In-At)))

@@ -1,5 +1,5 @@
 use mathlib.Core.Path.{◌≡◌, ap, sym, ◌∙◌}
-use mathlib.Core.Option.{some}
+use Rattle.std.specs.Option.{Some}
 use native.Mathlib.Omega.{arith}
 use Rattle.least.specs.Sums.{up}
 use Rattle.least.proofs.Sums.{up_mul≤}
@@ -13,7 +13,7 @@ use Rattle.analysis.proofs.hypertask.response_of.Goals as goal
 
 -- t(i), as it was found
 period : (c : In-At) → active_period c.args.table.now
-    c.args.i ≡ some c.in-At.t
+    c.args.i ≡ Some c.in-At.t
 period c = found_some (active_period _ _) _ (sym c.in-At.is ∙ c.active_period.ensures)
 
 -- the number of its jobs

@@ -1,5 +1,5 @@
 use mathlib.Core.Path.{◌≡◌, ap, sym, ◌∙◌}
-use mathlib.Core.Option.{some}
+use Rattle.std.specs.Option.{Some}
 use Prim.Native.Nat.{suc}
 use native.Mathlib.Omega.{arith}
 use Rattle.equations.specs.Hypertask.{job_response, worst}
@@ -20,6 +20,6 @@ returns-in_default c = ap found_of (sym (worst_none _ _ c.loop-before.before c.a
 pub loop-before-preserved : goal.loop-before-preserved
 loop-before-preserved c = let l = c.loop-before in
     let r = c.in-At.r in
-    let f : job_response c.args.table.now c.args.i (suc l.before) ≡ some r = found_some _ _ (sym c.in-At.is
+    let f : job_response c.args.table.now c.args.i (suc l.before) ≡ Some r = found_some _ _ (sym c.in-At.is
     ∙ c.response_after.ensures) in
-    (omega arith, worst_more _ _ l.before l.most r l.invariant.1 f ∙ ap some (sym c.larger-most.ensures))
+    (omega arith, worst_more _ _ l.before l.most r l.invariant.1 f ∙ ap Some (sym c.larger-most.ensures))

@@ -1,11 +1,11 @@
 use mathlib.Core.Path.{◌≡◌}
-use mathlib.Core.Option.{some}
+use Rattle.std.specs.Option.{Some}
 use Prim.Native.Nat.{◌-◌, ◌≤◌}
 use Rattle.equations.specs.Hypertask.{worst}
 use Rattle.analysis.proofs.hypertask.worst_of.Given as goal
 
 abbrev pub invariant-loop-before : goal.invariant-loop-before
-invariant-loop-before l = (l.before ≤ l.n) × (worst l.table l.i l.before ≡ some l.most)
+invariant-loop-before l = (l.before ≤ l.n) × (worst l.table l.i l.before ≡ Some l.most)
 
 abbrev pub decreases-loop-before : goal.decreases-loop-before
 decreases-loop-before l = l.n - l.before

@@ -1,5 +1,5 @@
 -- The entry that was found gives the part; where none was found the body is empty. Assumes nothing.
-use mathlib.Core.Option.{none, some}
+use Rattle.std.specs.Option.{None, Some}
 use mathlib.Core.Path.{◌≡◌, sym, ap, ◌∙◌}
 use Prim.Native.Nat.{ℕ, ◌+◌, ◌-◌}
 use native.Mathlib.Omega.{arith}
@@ -14,13 +14,13 @@ use Rattle.plan.proofs.reader.body.Goals as goal
 
 -- the entry that was found
 entry_found : (c : In-At)
-    → first_entry (OfKind c.args.kind) c.args.file.now ≡ some c.in-At.i
+    → first_entry (OfKind c.args.kind) c.args.file.now ≡ Some c.in-At.i
 entry_found c = found_some _ _ (sym c.in-At.is ∙ c.first_entry.ensures)
 
 pub returns-in_default : goal.returns-in_default
 returns-in_default c =
     let a = c.args in
-    sym (body_is a.file.now a.kind none (found_none _ (sym c.in_default.is ∙ c.first_entry.ensures)))
+    sym (body_is a.file.now a.kind None (found_none _ (sym c.in_default.is ∙ c.first_entry.ensures)))
 
 pub entry-e-requires : goal.entry-e-requires
 entry-e-requires c = (c.requires.listed, entry_in c.args.file.now _ _ (entry_found (goal.at.entry-e-requires c).In-At))

@@ -1,5 +1,5 @@
 -- A file that is accepted has each of its bodies in its place, so a body can be handed back. Assumes nothing.
-use mathlib.Core.Option.{none}
+use Rattle.std.specs.Option.{None}
 use mathlib.Core.Path.{◌≡◌, sym, ◌∙◌}
 use Rattle.plan.specs.PlanFile.{read_refusal}
 use Rattle.plan.proofs.Entries.{no_part, the_part, passed, listed, placed}
@@ -7,7 +7,7 @@ use Rattle.plan.proofs.Tests.{answer_some, answer_none}
 use Rattle.plan.proofs.reader.part_of.Goals.{In_default}
 use Rattle.plan.proofs.reader.part_of.Goals as goal
 
-accepted : (c : In_default) → read_refusal c.args.file.now ≡ none
+accepted : (c : In_default) → read_refusal c.args.file.now ≡ None
 accepted c = answer_none _ (sym c.in_default.is ∙ c.check.ensures)
 
 pub returns-in-Refused : goal.returns-in-Refused

@@ -1,5 +1,5 @@
 -- Each check in the order of the definition; the total that is counted is the length of the file. Assumes nothing.
-use mathlib.Core.Option.{none}
+use Rattle.std.specs.Option.{None}
 use mathlib.Core.Bool.{false}
 use mathlib.Core.Path.{◌≡◌, sym, ap, ◌∙◌}
 use native.Mathlib.Omega.{arith}
@@ -16,7 +16,7 @@ use Rattle.plan.proofs.writer.check_write.Goals as goal
 table_fine : (c : Else-wrong_table) → wrong_table (length c.args.table.now) ≡ false
 table_fine c = sym c.wrong_table.ensures ∙ c.if-wrong_table.false
 
-records_fine : (c : In_default) → first_wrong_record c.args.script.now ≡ none
+records_fine : (c : In_default) → first_wrong_record c.args.script.now ≡ None
 records_fine c = found_none _ (sym c.in_default.is ∙ c.first_wrong_record.ensures)
 
 pub returns-then-wrong_table : goal.returns-then-wrong_table

@@ -1,5 +1,5 @@
 -- Refused, nothing was put; accepted, the whole file was, at the front. Assumes nothing.
-use mathlib.Core.Option.{none}
+use Rattle.std.specs.Option.{None}
 use mathlib.Core.Path.{◌≡◌, sym, ◌∙◌}
 use native.Mathlib.Omega.{arith}
 use lib.ListN.{length}
@@ -10,7 +10,7 @@ use Rattle.plan.proofs.writer.write.Goals.{In_default}
 use Rattle.plan.proofs.writer.write.Goals as goal
 
 accepted : (c : In_default)
-    → write_refusal c.args.table.now c.args.script.now (length c.args.output.now) ≡ none
+    → write_refusal c.args.table.now c.args.script.now (length c.args.output.now) ≡ None
 accepted c = answer_none _ (sym c.in_default.is ∙ c.check_write.ensures)
 
 pub put_file-requires : goal.put_file-requires
