@@ -3,7 +3,7 @@
 use mathlib.Core.Path.{◌≡◌, refl, sym, ap, ◌∙◌}
 use mathlib.Core.List.{List, [], ◌∷◌, ◌++◌}
 use mathlib.Core.Logic.{⊎_elim}
-use Rattle.std.specs.Option.{Option, None, Some}
+use Rattle.std.specs.Prelude.{Option, None, Some, Ok}
 use Prim.Native.Nat.{ℕ, suc, ◌+◌, ◌-◌, ◌*◌, ◌≤◌, ◌<◌}
 use native.Mathlib.Nat.{lt_irrefl, eq-or-lt_of_le}
 use native.Mathlib.Numerals.{add-one, add-two}
@@ -21,7 +21,6 @@ use Rattle.equations.specs.Table.{rows, T, D, K}
 use Rattle.equations.specs.Hypertask.{B, start_side, start, response, value_of, E}
 use Rattle.equations.specs.Guest.{window_side, guest}
 use Rattle.equations.specs.Analysis.{three_of, results}
-use Rattle.equations.specs.declared.Response.TheVariants.{Is}
 use Rattle.equations.proofs.Jobs.{one_less, offset_is, window_same}
 use Rattle.equations.proofs.Bounds.{times≤, starts_never_fall}
 use Rattle.analysis.specs.Loops.{found_of, place_of, starts_from, offsets_in, Offsets, Filled, GuestsFilled, three_in}
@@ -88,13 +87,13 @@ module _ (s : List ℕ) where
   filled_none rs es h g =
       record { long = h; long' = g; r = λ j q. absurd (lt_irrefl 0 (omega arith)); e = λ j q. absurd (lt_irrefl 0 (omega arith)) }
 
-  pub filled_more : (rs es : List ℕ) (i r : ℕ) → Filled s rs es i → i < 32 → response s i ≡ Is r
+  pub filled_more : (rs es : List ℕ) (i r : ℕ) → Filled s rs es i → i < 32 → response s i ≡ Ok r
       → Filled s (set rs i r) (set es i (D s i - r)) (i + 1)
   filled_more rs es i r f h q =
       record {
         long = simp length-set f.long;
         long' = simp length-set f.long';
-        r = stored rs i r (λ j x. response s j ≡ Is x) (omega (arith, f.long)) f.r q;
+        r = stored rs i r (λ j x. response s j ≡ Ok x) (omega (arith, f.long)) f.r q;
         e = stored es i (D s i - r) (λ j x. x ≡ E s j) (omega (arith, f.long')) f.e (sym (offset_is s i r q));
       }
 
@@ -104,9 +103,9 @@ module _ (s : List ℕ) where
   pub guests_none : (gs : List ℕ) → length gs ≡ 32 → GuestsFilled s gs 0
   guests_none gs h = record { long = h; g = λ j q. absurd (lt_irrefl 0 (omega arith)) }
 
-  pub guests_more : (gs : List ℕ) (i x : ℕ) → GuestsFilled s gs i → i < 32 → guest s i ≡ Is x → GuestsFilled s (set gs i x) (i + 1)
+  pub guests_more : (gs : List ℕ) (i x : ℕ) → GuestsFilled s gs i → i < 32 → guest s i ≡ Ok x → GuestsFilled s (set gs i x) (i + 1)
   guests_more gs i x f h q =
-      record { long = simp length-set f.long; g = stored gs i x (λ j y. guest s j ≡ Is y) (omega (arith, f.long)) f.g q }
+      record { long = simp length-set f.long; g = stored gs i x (λ j y. guest s j ≡ Ok y) (omega (arith, f.long)) f.g q }
 
   -- the three arrays hold the definition's results
   pub results_are : (rs es gs : List ℕ) (n : ℕ) → Filled s rs es n → GuestsFilled s gs n → flat (three_in rs es gs) n ≡ results s n

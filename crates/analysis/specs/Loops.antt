@@ -1,12 +1,10 @@
 -- What the private functions say of their loops and local arrays; the public promise needs none of it.
 -- Assumes nothing.
-use Rattle.std.specs.Prelude.{◌≡◌, List, [], ◌∷◌, ℕ, ◌+◌, ◌≤◌, ◌<◌, length, get_or}
-use Rattle.std.specs.Option.{Option, None, Some}
+use Rattle.std.specs.Prelude.{◌≡◌, List, [], ◌∷◌, ℕ, ◌+◌, ◌≤◌, ◌<◌, length, get_or, Option, None, Some, Ok}
 use Rattle.least.specs.Sums.{sum}
 use Rattle.equations.specs.Table.{rows}
 use Rattle.equations.specs.Hypertask.{start_demand, response, E}
 use Rattle.equations.specs.Guest.{guest}
-use Rattle.equations.specs.declared.Response.TheVariants.{Is}
 use Rattle.analysis.specs.declared.numbers.Found.{Found}
 use Rattle.analysis.specs.declared.numbers.Found.TheVariants.{At, Nothing}
 use Rattle.analysis.specs.declared.checks.Place.{Place}
@@ -45,13 +43,13 @@ pub record Fields (t c k : ℕ) : Type 0 where
 pub record Filled (s rs es : List ℕ) (n : ℕ) : Type 0 where
   pub long : length rs ≡ 32
   pub long' : length es ≡ 32
-  pub r : (j : ℕ) → j < n → response s j ≡ Is (get_or rs j 0)
+  pub r : (j : ℕ) → j < n → response s j ≡ Ok (get_or rs j 0)
   pub e : (j : ℕ) → j < n → get_or es j 0 ≡ E s j
 
 -- G of the first n rows stands in a list
 pub record GuestsFilled (s gs : List ℕ) (n : ℕ) : Type 0 where
   pub long : length gs ≡ 32
-  pub g : (j : ℕ) → j < n → guest s j ≡ Is (get_or gs j 0)
+  pub g : (j : ℕ) → j < n → guest s j ≡ Ok (get_or gs j 0)
 
 -- R, E and G of row j, from three lists
 abbrev pub three_in : List ℕ → List ℕ → List ℕ → ℕ → List ℕ

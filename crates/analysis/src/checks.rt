@@ -1,11 +1,10 @@
 // Refusals 1, 2 and 3: the table's shape.
-ghost use Rattle.std.specs.Prelude.{◌≡◌, ◌*◌, length};
+ghost use Rattle.std.specs.Prelude.{◌≡◌, ◌*◌, length, Ok};
 ghost use Rattle.least.specs.Search.{first_where};
 ghost use Rattle.equations.specs.Table.{rows, Sound};
 ghost use Rattle.equations.specs.Analysis.{bad_field, bad_deadline, table_check};
 ghost use Rattle.analysis.specs.Loops.{place_of};
 
-use equations::Checked;
 use refusals::Refusal;
 
 // The first place of something, counted from 0.
@@ -48,25 +47,25 @@ fn bad_deadline(table: &[u32]) -> Place
 }
 
 // Refusals 1, 2 and 3.
-pub(crate) fn check(table: &[u32]) -> Checked
+pub(crate) fn check(table: &[u32]) -> Result<(), Refusal>
     ensures value { result ≡ table_check table.now }
-    ensures sound { result ≡ Checked.Passed → Sound table.now }
+    ensures sound { result ≡ Ok tt → Sound table.now }
 {
     let m = table.len();
     if m < 4 {
-        return Checked::Stopped(Refusal::TableLength(m));
+        return Err(Refusal::TableLength(m));
     }
     if 128 < m {
-        return Checked::Stopped(Refusal::TableLength(m));
+        return Err(Refusal::TableLength(m));
     }
     if 0 < m % 4 {
-        return Checked::Stopped(Refusal::TableLength(m));
+        return Err(Refusal::TableLength(m));
     }
     if let Place::Here(k) = bad_field(table) {
-        return Checked::Stopped(Refusal::FieldRange(k));
+        return Err(Refusal::FieldRange(k));
     }
     if let Place::Here(j) = bad_deadline(table) {
-        return Checked::Stopped(Refusal::DeadlineAbovePeriod(j + 1));
+        return Err(Refusal::DeadlineAbovePeriod(j + 1));
     }
-    Checked::Passed
+    Ok(())
 }

@@ -8,7 +8,6 @@ ghost use Rattle.analysis.specs.Loops.{found_of, offsets_in, Offsets, Fields};
 
 use super::numbers::Found;
 use super::{hypertask, numbers};
-use equations::Response;
 use refusals::Refusal;
 
 // The request bound that a hypertask begins.
@@ -120,16 +119,16 @@ fn window_begun_by_hypertask(table: &[u32], es: &[u32], i: usize) -> Found
 }
 
 // G(i), or refusal 7 or 19 at its task.
-pub(crate) fn guest_of(table: &[u32], es: &[u32], i: usize) -> Response
+pub(crate) fn guest_of(table: &[u32], es: &[u32], i: usize) -> Result<u64, Refusal>
     requires { (Sound table.now) × (Offsets table.now es.now) × (i < rows table.now) }
     ensures { result ≡ guest table.now i }
 {
     let Found::At(a) = window_begun_by_guest(table, es, i) else {
-        return Response::Fails(Refusal::NoGuestWindow(i + 1));
+        return Err(Refusal::NoGuestWindow(i + 1));
     };
     let Found::At(e) = window_begun_by_hypertask(table, es, i) else {
-        return Response::Fails(Refusal::NoHypertaskWindow(i + 1));
+        return Err(Refusal::NoHypertaskWindow(i + 1));
     };
     let before = numbers::less(numbers::cell(table, 4 * i), numbers::cell(es, i));
-    Response::Is(numbers::larger(a, numbers::less(e, before)))
+    Ok(numbers::larger(a, numbers::less(e, before)))
 }

@@ -9,7 +9,6 @@ ghost use Rattle.analysis.specs.Loops.{found_of, starts_from};
 
 use super::numbers;
 use super::numbers::Found;
-use equations::Response;
 use refusals::Refusal;
 
 // up(t/T)·K of row j.
@@ -164,17 +163,17 @@ fn worst_of(table: &[u32], i: usize, b: u64, n: u64) -> Found
 }
 
 // R(i), or refusal 5 or 6 at its task.
-pub(crate) fn response_of(table: &[u32], i: usize) -> Response
+pub(crate) fn response_of(table: &[u32], i: usize) -> Result<u64, Refusal>
     requires { (Sound table.now) × (i < rows table.now) }
     ensures { result ≡ response table.now i }
 {
     let b = blocking(table, i);
     let Found::At(t) = active_period(table, i, b) else {
-        return Response::Fails(Refusal::NoActivePeriod(i + 1));
+        return Err(Refusal::NoActivePeriod(i + 1));
     };
     let jobs = numbers::rounded_up(t, numbers::cell(table, 4 * i));
     let Found::At(r) = worst_of(table, i, b, jobs) else {
-        return Response::Fails(Refusal::StartTooLate(i + 1));
+        return Err(Refusal::StartTooLate(i + 1));
     };
-    Response::Is(r)
+    Ok(r)
 }

@@ -1,53 +1,41 @@
 // The rows in their order, and R, E and G of each into lent memory.
-ghost use Rattle.std.specs.Prelude.{◌≡◌, ◌+◌, ◌*◌, ◌≤◌, [], ◌∷◌, ◌++◌, length, take, drop};
+ghost use Rattle.std.specs.Prelude.{◌≡◌, ◌+◌, ◌*◌, ◌≤◌, [], ◌∷◌, ◌++◌, length, take, drop, Ok};
 ghost use Rattle.equations.specs.Table.{rows, Sound};
 ghost use Rattle.equations.specs.Analysis.{hypertask_check, guest_check};
 ghost use Rattle.analysis.specs.Loops.{Offsets, Filled, GuestsFilled, three_in};
 ghost use Rattle.least.specs.Lists.{flat};
 
 use super::{guest, hypertask, numbers};
-use equations::{Checked, Response};
+use refusals::Refusal;
 
 // R and E of each row, or the first refusal of 5 and 6.
-pub(crate) fn hypertasks(table: &[u32], rs: &mut [u32; 32], es: &mut [u32; 32]) -> Checked
+pub(crate) fn hypertasks(table: &[u32], rs: &mut [u32; 32], es: &mut [u32; 32]) -> Result<(), Refusal>
     requires { (Sound table.now) × (length rs.old ≡ 32) × (length es.old ≡ 32) }
     ensures value { result ≡ hypertask_check table.now }
-    ensures filled { result ≡ Checked.Passed → Filled table.now rs.new es.new (rows table.now) }
+    ensures filled { result ≡ Ok tt → Filled table.now rs.new es.new (rows table.now) }
 {
     let n = table.len() / 4;
     for i in 0..n {
-        match hypertask::response_of(table, i) {
-            Response::Fails(f) => {
-                return Checked::Stopped(f);
-            }
-            Response::Is(r) => {
-                let d = numbers::cell(table, 4 * i + 1);
-                rs[i] = r as u32;
-                es[i] = (d - r) as u32;
-            }
-        }
+        let r = hypertask::response_of(table, i)?;
+        let d = numbers::cell(table, 4 * i + 1);
+        rs[i] = r as u32;
+        es[i] = (d - r) as u32;
     }
-    Checked::Passed
+    Ok(())
 }
 
 // G of each row, or the first refusal of 7.
-pub(crate) fn guests(table: &[u32], es: &[u32], gs: &mut [u32; 32]) -> Checked
+pub(crate) fn guests(table: &[u32], es: &[u32], gs: &mut [u32; 32]) -> Result<(), Refusal>
     requires { (Sound table.now) × (Offsets table.now es.now) × (length gs.old ≡ 32) }
     ensures value { result ≡ guest_check table.now }
-    ensures guests_filled { result ≡ Checked.Passed → GuestsFilled table.now gs.new (rows table.now) }
+    ensures guests_filled { result ≡ Ok tt → GuestsFilled table.now gs.new (rows table.now) }
 {
     let n = table.len() / 4;
     for i in 0..n {
-        match guest::guest_of(table, es, i) {
-            Response::Fails(f) => {
-                return Checked::Stopped(f);
-            }
-            Response::Is(g) => {
-                gs[i] = g as u32;
-            }
-        }
+        let g = guest::guest_of(table, es, i)?;
+        gs[i] = g as u32;
     }
-    Checked::Passed
+    Ok(())
 }
 
 // Three numbers at a place of the lent results.

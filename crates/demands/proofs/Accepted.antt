@@ -10,6 +10,7 @@ use native.Mathlib.Decide.{dec_le}
 use lib.Dec.{ltb}
 use lib.ListN.{get_or, get_or-eq_default}
 use borrow.Author.Tests.{lt-ltb, le-ltb}
+use Rattle.std.specs.Prelude.{Ok, Err}
 use Rattle.least.specs.Search.{Least}
 use Rattle.least.specs.Sums.{up, sum}
 use Rattle.least.proofs.Sums.{sum_mono, sum_suc, largest_upper}
@@ -18,9 +19,7 @@ use Rattle.equations.specs.Hypertask.{B, demand, active_side, releases, start_de
 use Rattle.equations.specs.Guest.{begun_by_hypertask, begun_by_guest, bound, below, F, window_side}
 use Rattle.equations.specs.Analysis.{analysis}
 use Rattle.equations.specs.Solutions.{Job, HypertaskResponse, GuestResponse, Schedulable}
-use Rattle.equations.specs.declared.Answer.TheVariants.{Accepted}
-use Rattle.equations.specs.declared.Response.{Response}
-use Rattle.equations.specs.declared.Response.TheVariants.{Is, Fails}
+use Rattle.equations.specs.Answers.{Response}
 use Rattle.equations.proofs.Bounds.{T≥1, K≥1}
 use Rattle.equations.proofs.Checks.{results_fit}
 use Rattle.equations.proofs.Exactly.{R, G, accepted_sound, offset_range}
@@ -32,10 +31,10 @@ use Rattle.demands.proofs.Guests.{Window, GuestLevel}
 use Rattle.demands.proofs.Rows.{Fits}
 
 -- the start accepts no table that the analysis, with room enough for its results, would refuse
-pub schedulable : (s : List ℕ) (n : ℕ) → start_answer s ≡ Accepted n → (n ≡ rows s) × Schedulable s (R s) (E s) (G s)
+pub schedulable : (s : List ℕ) (n : ℕ) → start_answer s ≡ Ok n → (n ≡ rows s) × Schedulable s (R s) (E s) (G s)
 unfolding start_answer analysis
 schedulable s n e =
-    let z : analysis s (3 * rows s) ≡ Accepted n = rw (results_fit s (3 * rows s) (omega arith)) e in
+    let z : analysis s (3 * rows s) ≡ Ok n = rw (results_fit s (3 * rows s) (omega arith)) e in
     let a = accepted_sound s (3 * rows s) n z in
     (a.0, a.2)
 
@@ -57,8 +56,8 @@ unfolding E
 no_offset s j z = go (response s j)
   where
     go : (r : Response) → offset_from (D s j) r ≡ 0
-    go (Is r) = omega arith
-    go (Fails f) = refl
+    go (Ok r) = omega arith
+    go (Err f) = refl
 
 pub row_past : (s : List ℕ) → Sound s → (j : ℕ) → rows s ≤ j → row_of s j ≡ no_row
 unfolding row_of

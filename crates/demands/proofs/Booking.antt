@@ -10,16 +10,16 @@ use native.Mathlib.Omega.{arith}
 use lib.ListN.{length}
 use lib.Dec.{eqb}
 use borrow.Author.Tests.{eqb-true}
+use Rattle.std.specs.Prelude.{Ok, Err}
 use Rattle.equations.specs.Table.{rows}
 use Rattle.equations.specs.Hypertask.{E}
 use Rattle.equations.specs.Solutions.{Schedulable}
-use Rattle.equations.specs.declared.Answer.TheVariants.{Accepted}
 use Rattle.equations.proofs.Exactly.{R, G}
 use Rattle.machine.specs.declared.Stage.{Stage}
 use Rattle.machine.specs.declared.Row.{Row}
 use Rattle.machine.specs.declared.Taken.{Taken}
 use Rattle.machine.specs.declared.Machine.{Machine}
-use Rattle.machine.specs.declared.Answer.{Answer}
+use Rattle.machine.specs.Answers.{Answer}
 use Rattle.machine.specs.Rows.{with_stage, in_mask, Found, at, none, is_hyper, has_budget}
 use Rattle.machine.specs.TickRule.{Verdict, refused, accepted, verdict, chosen, ran_from, nobody_ran, ran_on, taken, step_by, step_of}
 use Rattle.machine.specs.Fresh.{fresh_at}
@@ -39,12 +39,12 @@ use Rattle.demands.proofs.Demand3.{started, run_from}
 -- ## Whom the answer names
 
 -- a tick whose answer says that it was taken
-was_accepted : (m : Machine) (mask signal : ℕ) (early : Bool) (said : Taken) → (step_of m mask signal early).answer ≡ Answer.Taken said
+was_accepted : (m : Machine) (mask signal : ℕ) (early : Bool) (said : Taken) → (step_of m mask signal early).answer ≡ Ok said
     → verdict m mask ≡ accepted
 unfolding step_of
 was_accepted m mask signal early said e = go (verdict m mask) refl e
   where
-    go : (v : Verdict) → verdict m mask ≡ v → (step_by m mask signal early v).answer ≡ Answer.Taken said → verdict m mask ≡ accepted
+    go : (v : Verdict) → verdict m mask ≡ v → (step_by m mask signal early v).answer ≡ Ok said → verdict m mask ≡ accepted
     go (refused y) q e = absurd (let z : ◌≡◌ {A = ℕ} 0 1 = cc in omega arith)
     go accepted q e = q
 
@@ -71,15 +71,15 @@ named_ran k i signal early c (Stage.Hyper a l) e = go (early || eqb (l - 1) 0) r
 named_ran k i signal early c (Stage.Closed a) e = clash e
 
 -- the row that the answer names is the one that step 3 chose
-pub named_is_chosen : (m : Machine) (t : Tick) (said : Taken) (i : ℕ) → (step_of m t.mask t.signal t.early).answer ≡ Answer.Taken said →
+pub named_is_chosen : (m : Machine) (t : Tick) (said : Taken) (i : ℕ) → (step_of m t.mask t.signal t.early).answer ≡ Ok said →
     is_row_of i said.ran ≡ true → chosen (rows_for m t) ≡ at i
 unfolding step_of taken
 named_is_chosen m t said i e w = go (verdict m t.mask) e
   where
-    said_is : (a b : Taken) → Answer.Taken a ≡ Answer.Taken b → a ≡ b
+    said_is : (a b : Taken) → Ok a ≡ Ok b → a ≡ b
     said_is a b e = cc
 
-    by : (f : Found) → chosen (rows_for m t) ≡ f → (ran_on m.count m.clock (rows_for m t) t.signal t.early f).answer ≡ Answer.Taken said
+    by : (f : Found) → chosen (rows_for m t) ≡ f → (ran_on m.count m.clock (rows_for m t) t.signal t.early f).answer ≡ Ok said
         → chosen (rows_for m t) ≡ at i
     by (at k) q e =
         let y : Row = row_at (rows_for m t) k in
@@ -87,7 +87,7 @@ named_is_chosen m t said i e w = go (verdict m t.mask) e
         q ∙ ap at (named_ran k i t.signal t.early y.c y.stage (rw (← z) at w))
     by none q e = let z : nobody_ran t.signal ≡ said = said_is _ said e in clash (rw (← z) at w)
 
-    go : (v : Verdict) → (step_by m t.mask t.signal t.early v).answer ≡ Answer.Taken said → chosen (rows_for m t) ≡ at i
+    go : (v : Verdict) → (step_by m t.mask t.signal t.early v).answer ≡ Ok said → chosen (rows_for m t) ≡ at i
     go (refused y) e = absurd (let z : ◌≡◌ {A = ℕ} 0 1 = cc in omega arith)
     go accepted e = by (chosen (rows_for m t)) refl e
 
@@ -107,7 +107,7 @@ same : (f : Found) → shift 0 f ≡ f
 same (at n) = let z : 0 + n ≡ n = omega arith in ap at z
 same none = refl
 
-module _ (s : List ℕ) (m : ℕ) (ok : start_answer s ≡ Accepted m) (ticks : List Tick) (t : Tick) (said : Taken) where
+module _ (s : List ℕ) (m : ℕ) (ok : start_answer s ≡ Ok m) (ticks : List Tick) (t : Tick) (said : Taken) where
   abbrev sch : Schedulable s (R s) (E s) (G s)
   sch = (schedulable s m ok).1
 
@@ -161,13 +161,13 @@ stays_after r t x h = go (step_of r.machine t.mask t.signal t.early).answer
   where
     go : (a : Answer) → (tick_at (r.taken ++ taken_by t a) x ≡ tick_at r.taken x)
         × ((i n : ℕ) → booked_to (r.taken ++ taken_by t a) i n x ≡ booked_to r.taken i n x) × (x < length (r.taken ++ taken_by t a))
-    go (Answer.Taken said) =
+    go (Ok said) =
         let e : TakenTick = record { tick = t; said = said } in (
           tick_other r.taken e x (λ q. absurd (omega arith)),
           λ i n. booked_before r.taken e i n x h,
           omega (arith, more_length r.taken e),
         )
-    go (Answer.Refused refusal) = rw (append-nil r.taken) (refl, λ i n. refl, h)
+    go (Err refusal) = rw (append-nil r.taken) (refl, λ i n. refl, h)
 
 stays : (later : List Tick) (r : Run) (x : ℕ) → x < length r.taken → (tick_at (onward r later).taken x ≡ tick_at r.taken x)
     × ((i n : ℕ) → booked_to (onward r later).taken i n x ≡ booked_to r.taken i n x)
@@ -185,14 +185,14 @@ onward_append r (t ∷ a) b = onward_append (after r t) a b
 
 -- ## In every taken tick of a run
 
-module _ (s : List ℕ) (m : ℕ) (ok : start_answer s ≡ Accepted m) (before : List Tick) (t : Tick) (later : List Tick) (said : Taken) (i : ℕ) where
+module _ (s : List ℕ) (m : ℕ) (ok : start_answer s ≡ Ok m) (before : List Tick) (t : Tick) (later : List Tick) (said : Taken) (i : ℕ) where
   abbrev Y : Run
   Y = run (fresh_at (rows_of s m) 0) before
 
   abbrev e : TakenTick
   e = record { tick = t; said = said }
 
-  ran_from_lem : (step_of Y.machine t.mask t.signal t.early).answer ≡ Answer.Taken said → is_row_of i said.ran ≡ true →
+  ran_from_lem : (step_of Y.machine t.mask t.signal t.early).answer ≡ Ok said → is_row_of i said.ran ≡ true →
       JobThatRan Y.machine t said (run (fresh_at (rows_of s m) 0) (before ++ t ∷ later)).taken i (length Y.taken)
   unfolding onward after
   ran_from_lem a w =
@@ -217,9 +217,9 @@ module _ (s : List ℕ) (m : ℕ) (ok : start_answer s ≡ Accepted m) (before :
       })
 
 -- For every table that the start accepts, every run, every tick of it that is taken and the row that its answer names.
-pub job_that_ran : (s : List ℕ) (m : ℕ) → start_answer s ≡ Accepted m → (before : List Tick) (t : Tick) (later : List Tick) (said : Taken)
+pub job_that_ran : (s : List ℕ) (m : ℕ) → start_answer s ≡ Ok m → (before : List Tick) (t : Tick) (later : List Tick) (said : Taken)
     (i : ℕ) →
-    (step_of (run (start_of s).machine before).machine t.mask t.signal t.early).answer ≡ Answer.Taken said → is_row_of i said.ran ≡ true →
+    (step_of (run (start_of s).machine before).machine t.mask t.signal t.early).answer ≡ Ok said → is_row_of i said.ran ≡ true →
     JobThatRan (run (start_of s).machine before).machine t said (run (start_of s).machine (before ++ t ∷ later)).taken i
     (length (run (start_of s).machine before).taken)
 job_that_ran s m ok before t later said i = rw (started s m ok) (ran_from_lem s m ok before t later said i)

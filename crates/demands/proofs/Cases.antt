@@ -5,16 +5,16 @@ use mathlib.Core.Bool.{true, false}
 use mathlib.Core.List.{List, [], ◌∷◌}
 use lib.Dec.{lit<}
 use lib.ListN.{length, take}
+use Rattle.std.specs.Prelude.{Ok}
 use Rattle.least.specs.Search.{first_where}
 use Rattle.least.specs.Sums.{up, sum, largest}
 use Rattle.equations.specs.Hypertask.{B, demand, active_side, active_period, releases, start_demand, start_side, start, job_response, worst, response, E}
 use Rattle.equations.specs.Guest.{begun_by_hypertask, begun_by_guest, bound, below, F, window_side, WA, WE, guest}
 use Rattle.equations.specs.Analysis.{table_check, row_by_row, hypertask_check, guest_check, solved}
-use Rattle.equations.specs.declared.Answer.TheVariants.{Accepted}
 use Rattle.machine.specs.declared.Taken.{Taken}
 use Rattle.machine.specs.declared.Ran.{Ran}
 use Rattle.machine.specs.declared.Mark.{Mark}
-use Rattle.machine.specs.declared.Answer.{Answer}
+use Rattle.machine.specs.Answers.{Answer}
 use Rattle.machine.specs.Rows.{age, at, first_from, map_from, every, how_many}
 use Rattle.machine.specs.WellFormed.{fields_fit, stage_fits, is_blank, well_formed}
 use Rattle.machine.specs.TickRule.{verdict, chosen, turned, taken, step_of}
@@ -70,7 +70,7 @@ said ticks x = (tick_at (taken_of ticks) x).said
 
 -- what comes out
 pub record Right : Type 0 where
-  pub p3_accepted : start_answer p3 ≡ Accepted 1
+  pub p3_accepted : start_answer p3 ≡ Ok 1
   -- Signal 1 in tick 5 gives the guest's output.
   pub signalled_ticks : length (taken_of signalled) ≡ 8
   pub signalled_job : Job 1 (taken_of signalled) 0 0
@@ -84,7 +84,7 @@ pub record Right : Type 0 where
   pub silent_6 : said silent 6 ≡ record { ran = Ran.Hypertask 1; mark = Mark.Nothing; ignored = true }
   pub silent_7 : said silent 7 ≡ record { ran = Ran.Hypertask 1; mark = Mark.Output; ignored = false }
   pub silent_last : (step_of (run (start_of p3).machine (take 7 silent)).machine 0 0 false).answer
-      ≡ Answer.Taken (record { ran = Ran.Hypertask 1; mark = Mark.Output; ignored = false })
+      ≡ Ok (record { ran = Ran.Hypertask 1; mark = Mark.Output; ignored = false })
   pub silent_output : hypertask_output (taken_of silent) 0 0 7 ≡ true
   pub silent_outputs : (guest_outputs (taken_of silent) 0 0 ≡ 0) × (hypertask_outputs (taken_of silent) 0 0 ≡ 1)
   pub silent_totals : totals silent ≡ 1 ∷ 0 ∷ 1 ∷ 0 ∷ []

@@ -10,9 +10,9 @@ use native.Mathlib.Omega.{arith}
 use lib.Dec.{eqb}
 use lib.ListN.{length}
 use borrow.Author.Tests.{eqb-true, eqb-false, eq-eqb, ne_eqb}
+use Rattle.std.specs.Prelude.{Ok}
 use Rattle.least.specs.Sums.{sum}
 use Rattle.least.proofs.Sums.{sum_same}
-use Rattle.equations.specs.declared.Answer.TheVariants.{Accepted}
 use Rattle.machine.specs.declared.Stage.{Stage}
 use Rattle.machine.specs.declared.Row.{Row}
 use Rattle.machine.specs.Rows.{Found, at, none}
@@ -145,7 +145,7 @@ module _ (c₀ : ℕ) (r : Row) (l : List TakenTick) (i : ℕ) (z : Stage) (B : 
 
 -- ## Over `start` and the machine's step
 
-module _ (s : List ℕ) (m : ℕ) (accepted : start_answer s ≡ Accepted m) where
+module _ (s : List ℕ) (m : ℕ) (accepted : start_answer s ≡ Ok m) where
   -- after any list of ticks, from a fresh start at any clock
   module _ (c₀ : ℕ) (ticks : List Tick) (i : ℕ) (h : i < m) where
     abbrev X : Run

@@ -10,11 +10,11 @@ use native.Mathlib.Omega.{arith}
 use lib.Dec.{eqb}
 use lib.ListN.{length}
 use borrow.Author.Tests.{eqb-true}
+use Rattle.std.specs.Prelude.{Ok}
 use Rattle.least.specs.Sums.{sum}
 use Rattle.equations.specs.Table.{rows, D}
 use Rattle.equations.specs.Hypertask.{E}
 use Rattle.equations.specs.Solutions.{Schedulable}
-use Rattle.equations.specs.declared.Answer.TheVariants.{Accepted}
 use Rattle.equations.proofs.Exactly.{R, G}
 use Rattle.machine.specs.declared.Stage.{Stage}
 use Rattle.machine.specs.Fresh.{fresh_at}
@@ -85,11 +85,11 @@ module _ (s : List ℕ) (r g : ℕ → ℕ) (sch : Schedulable s r (E s) g) (c�
 -- ## Over `start` and the machine's step
 
 -- the machine that the start hands back
-pub started : (s : List ℕ) (m : ℕ) → start_answer s ≡ Accepted m → (start_of s).machine ≡ fresh_at (rows_of s m) 0
+pub started : (s : List ℕ) (m : ℕ) → start_answer s ≡ Ok m → (start_of s).machine ≡ fresh_at (rows_of s m) 0
 unfolding start_of
 started s m a = rw a
 
-module _ (s : List ℕ) (m : ℕ) (accepted : start_answer s ≡ Accepted m) where
+module _ (s : List ℕ) (m : ℕ) (accepted : start_answer s ≡ Ok m) where
   -- every state of a run, from a fresh start of the table at any clock
   pub run_from : (c₀ : ℕ) (ticks : List Tick) → State s (R s) (G s) (schedulable s m accepted).1 c₀ (run (fresh_at (rows_of s m) c₀) ticks)
   run_from c₀ ticks =
@@ -128,30 +128,30 @@ module _ (s : List ℕ) (m : ℕ) (accepted : start_answer s ≡ Accepted m) whe
 
 -- For every table that the start accepts, every list of ticks and every job: once n + D ticks were taken, n being the number of the tick that
 -- brought the job, it has exactly one output among all ticks taken so far; each output of it is in a tick before n + D, the guest's before n + E.
-pub demand3 : (s : List ℕ) (m : ℕ) → start_answer s ≡ Accepted m → (ticks : List Tick) (i n : ℕ) →
+pub demand3 : (s : List ℕ) (m : ℕ) → start_answer s ≡ Ok m → (ticks : List Tick) (i n : ℕ) →
     Job m (run (start_of s).machine ticks).taken i n → Due s (run (start_of s).machine ticks).taken i n →
     OneInTime s (run (start_of s).machine ticks).taken i n
 demand3 s m accepted ticks i n = rw (started s m accepted) (demand3_from s m accepted 0 ticks i n)
 
 -- Before the deadline too: never more than one output, and each in time.
-pub never_more : (s : List ℕ) (m : ℕ) → start_answer s ≡ Accepted m → (ticks : List Tick) (i n : ℕ) →
+pub never_more : (s : List ℕ) (m : ℕ) → start_answer s ≡ Ok m → (ticks : List Tick) (i n : ℕ) →
     Job m (run (start_of s).machine ticks).taken i n →
     (guest_outputs (run (start_of s).machine ticks).taken i n + hypertask_outputs (run (start_of s).machine ticks).taken i n ≤ 1)
     × InTime s (run (start_of s).machine ticks).taken i n
 never_more s m accepted ticks i n = rw (started s m accepted) (in_time_from s m accepted 0 ticks i n)
 
 -- The clock reads how many ticks were taken.
-pub clock_counts : (s : List ℕ) (m : ℕ) → start_answer s ≡ Accepted m → (ticks : List Tick) →
+pub clock_counts : (s : List ℕ) (m : ℕ) → start_answer s ≡ Ok m → (ticks : List Tick) →
     (run (start_of s).machine ticks).machine.clock ≡ length (run (start_of s).machine ticks).taken
 clock_counts s m accepted ticks = rw (started s m accepted) (omega (arith, clock_from s m accepted 0 ticks))
 
 -- Each of the 32 bits of a taken tick's mask that is set brings a job of the table.
-pub every_arrival : (s : List ℕ) (m : ℕ) → start_answer s ≡ Accepted m → (ticks : List Tick) (i n : ℕ) → i < 32 →
+pub every_arrival : (s : List ℕ) (m : ℕ) → start_answer s ≡ Ok m → (ticks : List Tick) (i n : ℕ) → i < 32 →
     brought (run (start_of s).machine ticks).taken i n ≡ true → Job m (run (start_of s).machine ticks).taken i n
 every_arrival s m accepted ticks i n = rw (started s m accepted) (job_from s m accepted 0 ticks i n)
 
 -- The same by the clock: once it reads the job's arrival plus its deadline.
-pub demand3_by_the_clock : (s : List ℕ) (m : ℕ) → start_answer s ≡ Accepted m → (ticks : List Tick) (i n : ℕ) →
+pub demand3_by_the_clock : (s : List ℕ) (m : ℕ) → start_answer s ≡ Ok m → (ticks : List Tick) (i n : ℕ) →
     Job m (run (start_of s).machine ticks).taken i n → n + D s i ≤ (run (start_of s).machine ticks).machine.clock →
     OneInTime s (run (start_of s).machine ticks).taken i n
 demand3_by_the_clock s m accepted ticks i n j h = demand3 s m accepted ticks i n j (omega (arith, clock_counts s m accepted ticks))

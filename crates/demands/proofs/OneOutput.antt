@@ -7,10 +7,10 @@ use mathlib.Core.Logic.{◌⊎◌, inl, inr}
 use native.Mathlib.Decide.{dec_le, ℕ_discrete}
 use native.Mathlib.Omega.{arith}
 use lib.ListN.{length}
+use Rattle.std.specs.Prelude.{Ok}
 use Rattle.least.specs.Sums.{sum}
 use Rattle.equations.specs.Table.{D}
 use Rattle.equations.specs.Hypertask.{E}
-use Rattle.equations.specs.declared.Answer.TheVariants.{Accepted}
 use Rattle.start.specs.Start.{start_answer, start_of}
 use Rattle.demands.specs.Runs.{Tick, TakenTick, run}
 use Rattle.demands.specs.Jobs.{Job, guest_output, hypertask_output, output, one, number_of, guest_outputs, hypertask_outputs}
@@ -96,7 +96,7 @@ module _ (ticks : List TakenTick) (i n : ℕ) where
 
 -- ## Over `start` and the machine's step
 
-module _ (s : List ℕ) (m : ℕ) (accepted : start_answer s ≡ Accepted m) (ticks : List Tick) (i n : ℕ) where
+module _ (s : List ℕ) (m : ℕ) (accepted : start_answer s ≡ Ok m) (ticks : List Tick) (i n : ℕ) where
   abbrev taken : List TakenTick
   taken = (run (start_of s).machine ticks).taken
 

@@ -4,10 +4,10 @@ use Prim.Native.Nat.{ℕ, ◌+◌, ◌≤◌, ◌<◌}
 use mathlib.Core.Path.{◌≡◌}
 use mathlib.Core.List.{List}
 use native.Mathlib.Omega.{arith}
+use Rattle.std.specs.Prelude.{Ok}
 use Rattle.equations.specs.Table.{rows, T, D, C}
 use Rattle.equations.specs.Hypertask.{E}
 use Rattle.equations.specs.Solutions.{Schedulable}
-use Rattle.equations.specs.declared.Answer.TheVariants.{Accepted}
 use Rattle.equations.proofs.Exactly.{R, G}
 use Rattle.machine.specs.declared.Stage.{Stage}
 use Rattle.machine.specs.Fresh.{fresh_at}
@@ -19,7 +19,7 @@ use Rattle.demands.proofs.Deadlines as D3
 use Rattle.demands.proofs.Deadlines.{All}
 use Rattle.demands.proofs.Demand3.{run_from}
 
-module _ (s : List ℕ) (m : ℕ) (accepted : start_answer s ≡ Accepted m) (c₀ : ℕ) (ticks : List Tick) (i : ℕ) (h : i < m) where
+module _ (s : List ℕ) (m : ℕ) (accepted : start_answer s ≡ Ok m) (c₀ : ℕ) (ticks : List Tick) (i : ℕ) (h : i < m) where
   abbrev X : Run
   X = run (fresh_at (rows_of s m) c₀) ticks
 

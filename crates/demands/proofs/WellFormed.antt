@@ -6,17 +6,17 @@ use mathlib.Core.Bool.{Bool, true}
 use mathlib.Core.List.{List, [], ◌∷◌, ◌++◌}
 use native.Mathlib.Omega.{arith}
 use lib.ListN.{length}
+use Rattle.std.specs.Prelude.{Ok, Err}
 use Rattle.refusals.specs.declared.Refusal.{Refusal}
 use Rattle.least.specs.Lists.{list_of}
 use Rattle.least.proofs.Lists.{length_list}
 use Rattle.equations.specs.Table.{rows}
 use Rattle.equations.specs.Hypertask.{E}
 use Rattle.equations.specs.Solutions.{Schedulable}
-use Rattle.equations.specs.declared.Answer.TheVariants.{Accepted}
 use Rattle.equations.proofs.Bounds.{T≤, C≥1, C≤, K≥1, K≤}
 use Rattle.equations.proofs.Exactly.{R, G, offset_range}
 use Rattle.machine.specs.declared.Row.{Row}
-use Rattle.machine.specs.declared.Answer.{Answer}
+use Rattle.machine.specs.Answers.{Answer}
 use Rattle.machine.specs.Rows.{every}
 use Rattle.machine.specs.WellFormed.{fields_fit, well_formed}
 use Rattle.machine.specs.TickRule.{step_of}
@@ -70,7 +70,7 @@ module _ (s : List ℕ) (r g : ℕ → ℕ) (sch : Schedulable s r (E s) g) wher
 
 -- ## Over `start` and the machine's step
 
-module _ (s : List ℕ) (m : ℕ) (accepted : start_answer s ≡ Accepted m) where
+module _ (s : List ℕ) (m : ℕ) (accepted : start_answer s ≡ Ok m) where
   pub well_formed_from : (c₀ : ℕ) → c₀ ≤ 2 ^ 40 → (ticks : List Tick) → well_formed (run (fresh_at (rows_of s m) c₀) ticks).machine ≡ true
   well_formed_from c₀ h ticks =
       let a = schedulable s m accepted in
@@ -86,5 +86,5 @@ module _ (s : List ℕ) (m : ℕ) (accepted : start_answer s ≡ Accepted m) whe
 
   -- whatever the next tick brings, it isn't refused with 8
   pub never_eight : (ticks : List Tick) (mask signal : ℕ) (early : Bool) (k : ℕ) →
-      (step_of (run (start_of s).machine ticks).machine mask signal early).answer ≡ Answer.Refused (Refusal.NotWellFormed k) → ⊥
+      (step_of (run (start_of s).machine ticks).machine mask signal early).answer ≡ Err (Refusal.NotWellFormed k) → ⊥
   never_eight ticks mask signal early k = step_not_8 (run (start_of s).machine ticks).machine mask signal early k (is_well_formed ticks)

@@ -1,9 +1,9 @@
 -- Runs: lists of ticks over the machine's own step. A refused tick counts as not taken; the taken ticks are numbered from 0.
 -- Assumes nothing.
-use Rattle.std.specs.Prelude.{ℕ, Bool, List, [], ◌∷◌, ◌++◌}
+use Rattle.std.specs.Prelude.{ℕ, Bool, List, [], ◌∷◌, ◌++◌, Ok, Err}
 use Rattle.machine.specs.declared.Machine.{Machine}
 use Rattle.machine.specs.declared.Taken.{Taken}
-use Rattle.machine.specs.declared.Answer.{Answer}
+use Rattle.machine.specs.Answers.{Answer}
 use Rattle.machine.specs.declared.Stepped.{Stepped}
 use Rattle.machine.specs.TickRule.{step_of}
 
@@ -25,8 +25,8 @@ pub record Run : Type 0 where
 
 -- what an answer adds to the ticks taken
 abbrev pub taken_by : Tick → Answer → List TakenTick
-taken_by t (Answer.Taken said) = record { tick = t; said = said } ∷ []
-taken_by t (Answer.Refused refusal) = []
+taken_by t (Ok said) = record { tick = t; said = said } ∷ []
+taken_by t (Err refusal) = []
 
 -- one tick more
 unfoldable pub after : Run → Tick → Run

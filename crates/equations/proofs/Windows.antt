@@ -4,7 +4,7 @@ use mathlib.Core.Path.{◌≡◌, refl, sym, ap, subst, ◌∙◌}
 use mathlib.Core.Bool.{Bool, true, false}
 use mathlib.Core.List.{List}
 use mathlib.Core.Logic.{◌⊎◌, ◌↔◌, ⊎_elim}
-use Rattle.std.specs.Option.{Option, None, Some}
+use Rattle.std.specs.Prelude.{Option, None, Some, Ok, Err}
 use Prim.Native.Nat.{ℕ, zero, suc, ◌+◌, ◌*◌, ◌≤◌, ◌<◌}
 use native.Mathlib.Nat.{lt_irrefl, le_refl}
 use native.Mathlib.Numerals.{add-one}
@@ -22,11 +22,7 @@ use Rattle.equations.specs.Guest.{window_side, WA, WE, guest}
 use Rattle.equations.specs.Analysis.{stop_if}
 use Rattle.equations.specs.Analysis.{table_check, results_check, hypertask_check, guest_check, and_then, solved, analysis, refuses, says}
 use Rattle.equations.specs.Solutions.{WindowsReached, NoWA, NoWE, GuestWindowFails, HypertaskWindowFails}
-use Rattle.equations.specs.declared.Response.{Response}
-use Rattle.equations.specs.declared.Response.TheVariants.{Is, Fails}
-use Rattle.equations.specs.declared.Checked.TheVariants.{Passed, Stopped}
-use Rattle.equations.specs.declared.Answer.{Answer}
-use Rattle.equations.specs.declared.Answer.TheVariants.{Accepted, Refused}
+use Rattle.equations.specs.Answers.{Response, Answer}
 use Rattle.equations.proofs.Jobs.{guest_7, guest_19, window_same}
 use Rattle.equations.proofs.Checks.{stopped_passed, stopped_inj, table_stopped, results_fit, entered, refused_7_or_19}
 use Rattle.equations.proofs.Checks.{Rowwise, rows_start, rows_next, rows_stop}
@@ -36,18 +32,18 @@ use Rattle.equations.proofs.Refused.{NoActive, LateJob, OnlyWA, FirstFailing, re
 
 -- ## A refusal past 6 comes from the windows
 
-table_stops : (s : List ℕ) (f : Refusal) → table_check s ≡ Stopped f → number_of f ≤ 3
+table_stops : (s : List ℕ) (f : Refusal) → table_check s ≡ Err f → number_of f ≤ 3
 table_stops s = table_stopped s (λ (f : Refusal). number_of f ≤ 3) (omega arith) (λ k e. omega arith) (λ j e. omega arith)
 
-results_stop : (s : List ℕ) (lent : ℕ) (f : Refusal) → results_check s lent ≡ Stopped f → number_of f ≤ 4
+results_stop : (s : List ℕ) (lent : ℕ) (f : Refusal) → results_check s lent ≡ Err f → number_of f ≤ 4
 unfolding results_check
 results_stop s lent f e = go (ltb lent (3 * rows s)) e
   where
-    go : (b : Bool) → stop_if b (Refusal.ResultsShort (3 * rows s)) Passed ≡ Stopped f → number_of f ≤ 4
+    go : (b : Bool) → stop_if b (Refusal.ResultsShort (3 * rows s)) (Ok tt) ≡ Err f → number_of f ≤ 4
     go true q = rw (← stopped_inj _ _ q) (omega arith)
     go false q = absurd (stopped_passed f (sym q))
 
-response_stops : (s : List ℕ) (i : ℕ) (f : Refusal) → response s i ≡ Fails f → number_of f ≤ 6
+response_stops : (s : List ℕ) (i : ℕ) (f : Refusal) → response s i ≡ Err f → number_of f ≤ 6
 response_stops s i f e = ⊎_elim
     (λ (a : (f ≡ NoActivePeriod (i + 1)) × NoActive s i). rw a.0 (omega arith))
     (λ (a : (f ≡ StartTooLate (i + 1)) × LateJob s i). rw a.0 (omega arith))
@@ -55,32 +51,32 @@ response_stops s i f e = ⊎_elim
 
 -- what the first row whose windows fail has before it
 record FromWindows (s : List ℕ) (lent : ℕ) (f : Refusal) : Type 0 where
-  shape : table_check s ≡ Passed
+  shape : table_check s ≡ (Ok tt)
   room : 3 * rows s ≤ lent
-  hypertasks : hypertask_check s ≡ Passed
+  hypertasks : hypertask_check s ≡ (Ok tt)
   first : FirstFailing (guest s) 0 (rows s) f
 
-from_windows : (s : List ℕ) (lent : ℕ) (f : Refusal) → 7 ≤ number_of f → analysis s lent ≡ Refused f → FromWindows s lent f
+from_windows : (s : List ℕ) (lent : ℕ) (f : Refusal) → 7 ≤ number_of f → analysis s lent ≡ Err f → FromWindows s lent f
 unfolding analysis results_check
 from_windows s lent f late e = shape (and_then_refused (table_check s) _ f e)
   where
-    windows : table_check s ≡ Passed → 3 * rows s ≤ lent
-        → FirstFailing (response s) 0 (rows s) f ⊎ ((hypertask_check s ≡ Passed) × FirstFailing (guest s) 0 (rows s) f) → FromWindows s lent f
+    windows : table_check s ≡ (Ok tt) → 3 * rows s ≤ lent
+        → FirstFailing (response s) 0 (rows s) f ⊎ ((hypertask_check s ≡ (Ok tt)) × FirstFailing (guest s) 0 (rows s) f) → FromWindows s lent f
     windows a b = ⊎_elim
         (λ (w : FirstFailing (response s) 0 (rows s) f). absurd (lt_irrefl 0 (omega (arith, response_stops s w.row f w.fails))))
-        (λ (w : (hypertask_check s ≡ Passed) × FirstFailing (guest s) 0 (rows s) f). record { shape = a; room = b; hypertasks = w.0; first = w.1 })
+        (λ (w : (hypertask_check s ≡ (Ok tt)) × FirstFailing (guest s) 0 (rows s) f). record { shape = a; room = b; hypertasks = w.0; first = w.1 })
 
-    room : table_check s ≡ Passed → (results_check s lent ≡ Stopped f) ⊎ ((results_check s lent ≡ Passed) × (solved s ≡ Refused f))
+    room : table_check s ≡ (Ok tt) → (results_check s lent ≡ Err f) ⊎ ((results_check s lent ≡ (Ok tt)) × (solved s ≡ Err f))
         → FromWindows s lent f
     room a = ⊎_elim
-        (λ (c : results_check s lent ≡ Stopped f). absurd (lt_irrefl 0 (omega (arith, results_stop s lent f c))))
-        (λ (c : (results_check s lent ≡ Passed) × (solved s ≡ Refused f)).
+        (λ (c : results_check s lent ≡ Err f). absurd (lt_irrefl 0 (omega (arith, results_stop s lent f c))))
+        (λ (c : (results_check s lent ≡ (Ok tt)) × (solved s ≡ Err f)).
         windows a (ltb-false _ _ (stop_if_passed (ltb lent (3 * rows s)) _ _ c.0).0) (refused_from_5 s f c.1))
 
-    shape : (table_check s ≡ Stopped f) ⊎ ((table_check s ≡ Passed) × (and_then (results_check s lent) (solved s) ≡ Refused f)) → FromWindows s lent f
+    shape : (table_check s ≡ Err f) ⊎ ((table_check s ≡ (Ok tt)) × (and_then (results_check s lent) (solved s) ≡ Err f)) → FromWindows s lent f
     shape = ⊎_elim
-        (λ (c : table_check s ≡ Stopped f). absurd (lt_irrefl 0 (omega (arith, table_stops s f c))))
-        (λ (c : (table_check s ≡ Passed) × (and_then (results_check s lent) (solved s) ≡ Refused f)).
+        (λ (c : table_check s ≡ Err f). absurd (lt_irrefl 0 (omega (arith, table_stops s f c))))
+        (λ (c : (table_check s ≡ (Ok tt)) × (and_then (results_check s lent) (solved s) ≡ Err f)).
         room c.0 (and_then_refused (results_check s lent) _ f c.1))
 
 reached_sound : (s : List ℕ) (lent : ℕ) (f : Refusal) (w : FromWindows s lent f) → WindowsReached s (R s) (E s) (G s) w.first.row
@@ -93,7 +89,7 @@ reached_sound s lent f w =
 
 -- ## And a row whose windows are looked at gives the answer of its guest
 
-rows_reached : (of : ℕ → Response) (n i : ℕ) → i ≤ n → ((k : ℕ) → k < i → (r : ℕ) × (of k ≡ Is r)) → Rowwise of n i
+rows_reached : (of : ℕ → Response) (n i : ℕ) → i ≤ n → ((k : ℕ) → k < i → (r : ℕ) × (of k ≡ Ok r)) → Rowwise of n i
 rows_reached of n zero h each = rows_start of n
 rows_reached of n (suc i) h each =
     let a = each i (le_refl (suc i)) in
@@ -103,14 +99,14 @@ module _ (s : List ℕ) (r e g : ℕ → ℕ) (i : ℕ) (w : WindowsReached s r 
   offsets : (j : ℕ) → j ≤ i → e j ≡ E s j
   offsets j b = (pass_numbers s r e w.hypertasks j (omega (arith, w.row))).1
 
-  reached_refused : (lent : ℕ) (f : Refusal) → 3 * rows s ≤ lent → guest s i ≡ Fails f → analysis s lent ≡ Refused f
+  reached_refused : (lent : ℕ) (f : Refusal) → 3 * rows s ≤ lent → guest s i ≡ Err f → analysis s lent ≡ Err f
   unfolding guest_check
   reached_refused lent f h q =
       entered s lent (table_complete s w.hypertasks.sound) (results_fit s lent h)
       ∙ refused_7_or_19 s f (hypertasks_complete s r e w.hypertasks)
       (rows_stop (guest s) (rows s) i f (rows_reached (guest s) (rows s) i (omega (arith, w.row)) passed) w.row q)
     where
-      passed : (k : ℕ) → k < i → (x : ℕ) × (guest s k ≡ Is x)
+      passed : (k : ℕ) → k < i → (x : ℕ) × (guest s k ≡ Ok x)
       passed k b = (g k, guest_complete s e k (g k) (λ j c. offsets j (omega arith)) (w.earlier k b))
 
   same_side : (own v : ℕ) → window_side s e i own v ≡ window_side s (E s) i own v
@@ -141,12 +137,12 @@ module _ (s : List ℕ) (r e g : ℕ → ℕ) (i : ℕ) (w : WindowsReached s r 
 -- ## By number and place
 
 refused_by : (a : Answer) (number place : ℕ) → says a ≡ refuses number place
-    → (f : Refusal) × (a ≡ Refused f) × (number_of f ≡ number) × (place_of f ≡ place)
-refused_by (Accepted n) number place e = let z : ◌≡◌ {A = ℕ} 0 1 = cc in absurd (lt_irrefl 0 (omega arith))
-refused_by (Refused f) number place e = (f, refl, cc, cc)
+    → (f : Refusal) × (a ≡ Err f) × (number_of f ≡ number) × (place_of f ≡ place)
+refused_by (Ok n) number place e = let z : ◌≡◌ {A = ℕ} 0 1 = cc in absurd (lt_irrefl 0 (omega arith))
+refused_by (Err f) number place e = (f, refl, cc, cc)
 
 -- both are at the task of the row whose windows they are about
-pub task_of_row : (s : List ℕ) (k : ℕ) (f : Refusal) → guest s k ≡ Fails f → place_of f ≡ k + 1
+pub task_of_row : (s : List ℕ) (k : ℕ) (f : Refusal) → guest s k ≡ Err f → place_of f ≡ k + 1
 task_of_row s k f e = ⊎_elim
     (λ (a : (f ≡ NoGuestWindow (k + 1)) × NoWA s (E s) k). ap place_of a.0)
     (λ (a : (f ≡ NoHypertaskWindow (k + 1)) × OnlyWA s k). ap place_of a.0)
@@ -158,7 +154,7 @@ record FromRow (s : List ℕ) (lent number i : ℕ) : Type 0 where
   numbered : number_of refusal ≡ number
   room : 3 * rows s ≤ lent
   reached : WindowsReached s (R s) (E s) (G s) i
-  fails : guest s i ≡ Fails refusal
+  fails : guest s i ≡ Err refusal
 
 from_row : (s : List ℕ) (lent number i : ℕ) → 7 ≤ number → says (analysis s lent) ≡ refuses number (i + 1) → FromRow s lent number i
 from_row s lent number i late e =
@@ -170,7 +166,7 @@ from_row s lent number i late e =
       numbered = f.2;
       room = w.room;
       reached = subst (WindowsReached s (R s) (E s) (G s)) row (reached_sound s lent f.0 w);
-      fails = subst (λ (k : ℕ). guest s k ≡ Fails f.0) row w.first.fails;
+      fails = subst (λ (k : ℕ). guest s k ≡ Err f.0) row w.first.fails;
     }
 
 -- ## "7 is only the first"

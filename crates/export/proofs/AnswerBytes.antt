@@ -9,6 +9,7 @@ use native.Mathlib.Omega.{arith}
 use borrow.Author.Tests.{lt-ltb}
 use lib.ListN.{length, take, drop}
 use lib.Seq.{sets, sets-eq}
+use Rattle.std.specs.Prelude.{Ok, Err, None, Some}
 use Rattle.least.specs.Lists.{flat}
 use Rattle.least.proofs.Lists.{block_more}
 use Rattle.refusals.specs.Refusals.{number_of, place_of}
@@ -16,11 +17,10 @@ use Rattle.refusals.specs.declared.Refusal.{Refusal}
 use Rattle.plan.specs.Numbers.{bytes_of}
 use Rattle.plan.specs.Bodies.{tick_at, record_of}
 use Rattle.plan.specs.declared.Tick.{Tick}
-use Rattle.plan.specs.declared.Recorded.TheVariants.{Record, Missing}
 use Rattle.plan.proofs.Puts.{sets_then}
 use Rattle.machine.specs.TickRule.{step_of}
 use Rattle.machine.specs.declared.Taken.{Taken}
-use Rattle.machine.specs.declared.Answer.{Answer}
+use Rattle.machine.specs.Answers.{Answer}
 use Rattle.machine.specs.declared.Machine.{Machine}
 use Rattle.machine.specs.declared.Stepped.{Stepped}
 use Rattle.export.specs.Ticks.{who_of, task_of, mark_of, bit_of, said_of, answer_bytes, step_by, machine_after, answer_to}
@@ -35,20 +35,20 @@ two_pieces o i j t u p q e = q ∙ ap (λ (l : List ℕ). sets l j u) p ∙ sets
 pub said_taken : (o : List ℕ) {a b : List ℕ} (at : ℕ) (t : Taken) (w n m g : ℕ) → w ≡ who_of t.ran → n ≡ task_of t.ran
     → m ≡ mark_of t.mark
     → g ≡ bit_of t.ignored → a ≡ sets o at (bytes_of 0) → b ≡ sets a (at + 4) (w ∷ n % 256 ∷ m ∷ g ∷ [])
-    → b ≡ sets o at (said_of (Answer.Taken t))
+    → b ≡ sets o at (said_of (Ok t))
 said_taken o at t w n m g hw hn hm hg p q =
     two_pieces o at (at + 4) (bytes_of 0) (w ∷ n % 256 ∷ m ∷ g ∷ []) p q refl
     ∙ rw (hw, hn, hm, hg)
 
 pub said_refused : (o : List ℕ) {a b : List ℕ} (at : ℕ) (r : Refusal) (p n : ℕ) → p ≡ place_of r → n ≡ number_of r
-    → a ≡ sets o at (bytes_of p) → b ≡ sets a (at + 4) (3 ∷ n % 256 ∷ 0 ∷ 0 ∷ []) → b ≡ sets o at (said_of (Answer.Refused r))
+    → a ≡ sets o at (bytes_of p) → b ≡ sets a (at + 4) (3 ∷ n % 256 ∷ 0 ∷ 0 ∷ []) → b ≡ sets o at (said_of (Err r))
 said_refused o at r p n hp hn u v =
     two_pieces o at (at + 4) (bytes_of p) (3 ∷ n % 256 ∷ 0 ∷ 0 ∷ []) u v refl
     ∙ rw (hp, hn)
 
 pub answer_length : (clock : ℕ) (a : Answer) → length (answer_bytes clock a) ≡ 12
-answer_length clock (Answer.Taken t) = refl
-answer_length clock (Answer.Refused r) = refl
+answer_length clock (Ok t) = refl
+answer_length clock (Err r) = refl
 
 pub answer_put : (o : List ℕ) {a b : List ℕ} (at clock : ℕ) (x : Answer) → at + 12 ≤ length o → a ≡ sets o at (bytes_of clock)
     → b ≡ sets a (at + 4) (said_of x)
@@ -60,18 +60,18 @@ answer_put o at clock x h p q =
 
 -- ## One record
 
-pub tick_there : (s : List ℕ) (i : ℕ) (t : Tick) → Record t ≡ record_of s i → i < length s / 8 → t ≡ tick_at s i
+pub tick_there : (s : List ℕ) (i : ℕ) (t : Tick) → Some t ≡ record_of s i → i < length s / 8 → t ≡ tick_at s i
 unfolding record_of
 tick_there s i t e h = inj t (tick_at s i) (e ∙ rw (lt-ltb _ _ h))
   where
-    inj : (a b : Tick) → Record a ≡ Record b → a ≡ b
+    inj : (a b : Tick) → Some a ≡ Some b → a ≡ b
     inj a b e = cc
 
-pub not_missing : (s : List ℕ) (i : ℕ) → Missing ≡ record_of s i → i < length s / 8 → ⊥
+pub not_missing : (s : List ℕ) (i : ℕ) → None ≡ record_of s i → i < length s / 8 → ⊥
 unfolding record_of
 not_missing s i e h = other (tick_at s i) (e ∙ rw (lt-ltb _ _ h))
   where
-    other : (b : Tick) → Missing ≡ Record b → ⊥
+    other : (b : Tick) → None ≡ Some b → ⊥
     other b e = let z : ◌≡◌ {A = ℕ} 0 1 = cc in lt_irrefl 0 (omega arith)
 
 -- ## One tick more

@@ -3,7 +3,7 @@
 use mathlib.Core.Path.{◌≡◌, refl, sym, ap, ◌∙◌}
 use mathlib.Core.Bool.{Bool, true, false}
 use mathlib.Core.List.{List, ◌++◌}
-use Rattle.std.specs.Option.{Option, None, Some}
+use Rattle.std.specs.Prelude.{Option, None, Some, Ok, Err}
 use Prim.Native.Nat.{ℕ, ◌*◌, ◌/◌, ◌≤◌, ◌<◌, min}
 use borrow.Author.Tests.{lt-ltb, le-ltb, ne_eqb}
 use lib.Dec.{eqb}
@@ -16,7 +16,7 @@ use Rattle.start.specs.Start.{start_of}
 use Rattle.start.specs.declared.Started.{Started}
 use Rattle.machine.specs.TickRule.{step_of}
 use Rattle.machine.specs.declared.Taken.{Taken}
-use Rattle.machine.specs.declared.Answer.{Answer}
+use Rattle.machine.specs.Answers.{Answer}
 use Rattle.machine.specs.declared.Machine.{Machine}
 use Rattle.machine.specs.declared.Stepped.{Stepped}
 use Rattle.export.specs.Files.{refusal_number, refusal_place}
@@ -119,14 +119,14 @@ module _ (s : List ℕ) (mask signal early : ℕ) (lent : List ℕ) where
   rule_says m x a h l u hm hx ha = rw (le-ltb _ _ h, le-ltb _ _ l, u, ← hm, ← hx, ha)
 
   pub step_refused : (m : Machine) (x : Stepped) (r : Refusal) (answer place : ℕ) → early ≤ 1 → 12 ≤ length lent → readable s ≡ true
-      → m ≡ machine_in s → x ≡ step_of m mask signal (eqb early 1) → x.answer ≡ Answer.Refused r → answer ≡ number_of r → place ≡ place_of r
+      → m ≡ machine_in s → x ≡ step_of m mask signal (eqb early 1) → x.answer ≡ Err r → answer ≡ number_of r → place ≡ place_of r
       → StepsMachine s mask signal early lent answer place s lent
   step_refused m x r answer place h l u hm hx ha hr hp =
-      step_left answer place s lent (Some r) (rule_says m x (Answer.Refused r) h l u hm hx ha) hr hp refl refl
+      step_left answer place s lent (Some r) (rule_says m x (Err r) h l u hm hx ha) hr hp refl refl
 
   pub step_taken : (m : Machine) (x : Stepped) (t : Taken) (after out : List ℕ) → early ≤ 1 → 12 ≤ length lent → readable s ≡ true
-      → m ≡ machine_in s → x ≡ step_of m mask signal (eqb early 1) → x.answer ≡ Answer.Taken t → after ≡ state_of x.machine ++ drop 258 s
+      → m ≡ machine_in s → x ≡ step_of m mask signal (eqb early 1) → x.answer ≡ Ok t → after ≡ state_of x.machine ++ drop 258 s
       → out ≡ answer_bytes m.clock x.answer ++ drop 12 lent
       → StepsMachine s mask signal early lent 0 0 after out
   step_taken m x t after out h l u hm hx ha hs ho =
-      step_left 0 0 after out None (rule_says m x (Answer.Taken t) h l u hm hx ha) refl refl (hs ∙ rw (hx, hm)) (ho ∙ rw (hx, hm))
+      step_left 0 0 after out None (rule_says m x (Ok t) h l u hm hx ha) refl refl (hs ∙ rw (hx, hm)) (ho ∙ rw (hx, hm))

@@ -3,7 +3,7 @@
 use mathlib.Core.Path.{◌≡◌, refl, sym, ap, ◌∙◌}
 use mathlib.Core.Bool.{Bool, true, false}
 use mathlib.Core.List.{List, ◌++◌}
-use Rattle.std.specs.Option.{Option, None, Some}
+use Rattle.std.specs.Prelude.{Option, None, Some, Ok, Err}
 use Prim.Native.Nat.{ℕ, ◌+◌, ◌/◌, ◌%◌, ◌≤◌, ◌<◌}
 use native.Mathlib.Nat.{lt_irrefl, zero-add}
 use native.Mathlib.Omega.{arith}
@@ -18,8 +18,7 @@ use Rattle.plan.specs.Refuse.{answer_of}
 use Rattle.plan.specs.PlanFile.{sections_of, body_of, rows_kind, read_refusal, part_if, part_of}
 use Rattle.plan.specs.Bodies.{taken_of, after_taken}
 use Rattle.plan.specs.Writer.{plan_file, write_refusal, writing_of, Writes}
-use Rattle.plan.specs.declared.Answer.{Answer}
-use Rattle.plan.specs.declared.Writing.{Writing}
+use Rattle.plan.specs.Answers.{Answer, Writing}
 use Rattle.plan.proofs.Values.{numbers_length}
 use Rattle.plan.proofs.Puts.{script_step, sets_front}
 use Rattle.plan.proofs.RoundTrips.{accepted_rows}
@@ -27,20 +26,20 @@ use Rattle.export.specs.Files.{refusal_number, refusal_place, to_front, ChecksFi
 
 -- ## What is said
 
-accepts : (o : Option Refusal) → Answer.Accepted ≡ answer_of o → o ≡ None
+accepts : (o : Option Refusal) → (Ok tt) ≡ answer_of o → o ≡ None
 accepts None e = refl
 accepts (Some r) e = let z : ◌≡◌ {A = ℕ} 0 1 = cc in absurd (lt_irrefl 0 (omega arith))
 
-refuses : (o : Option Refusal) (r : Refusal) → Answer.Refused r ≡ answer_of o → o ≡ Some r
+refuses : (o : Option Refusal) (r : Refusal) → Err r ≡ answer_of o → o ≡ Some r
 refuses None r e = let z : ◌≡◌ {A = ℕ} 0 1 = cc in absurd (lt_irrefl 0 (omega arith))
 refuses (Some q) r e = cc
 
-pub check_accepted : (file : List ℕ) (x : Answer) → x ≡ answer_of (read_refusal file) → x ≡ Answer.Accepted → ChecksFile file 0 0
+pub check_accepted : (file : List ℕ) (x : Answer) → x ≡ answer_of (read_refusal file) → x ≡ (Ok tt) → ChecksFile file 0 0
 check_accepted file x e a =
     let n = sym (accepts (read_refusal file) (sym a ∙ e)) in
     record { answers = ap refusal_number n; places = ap (λ (o : Option Refusal). refusal_place o 0) n }
 
-pub check_refused : (file : List ℕ) (x : Answer) (r : Refusal) (n i : ℕ) → x ≡ answer_of (read_refusal file) → x ≡ Answer.Refused r
+pub check_refused : (file : List ℕ) (x : Answer) (r : Refusal) (n i : ℕ) → x ≡ answer_of (read_refusal file) → x ≡ Err r
     → n ≡ number_of r
     → i ≡ place_of r
     → ChecksFile file n i
@@ -48,16 +47,16 @@ check_refused file x r n i e a hn hi =
     let s = sym (refuses (read_refusal file) r (sym a ∙ e)) in
     record { answers = hn ∙ ap refusal_number s; places = hi ∙ ap (λ (o : Option Refusal). refusal_place o 0) s }
 
-writes : (o : Option Refusal) (m n : ℕ) → Writing.Written n ≡ writing_of o m → (o ≡ None) × (n ≡ m)
+writes : (o : Option Refusal) (m n : ℕ) → Ok n ≡ writing_of o m → (o ≡ None) × (n ≡ m)
 writes None m n e = (refl, cc)
 writes (Some r) m n e = let z : ◌≡◌ {A = ℕ} 0 1 = cc in absurd (lt_irrefl 0 (omega arith))
 
-writes_not : (o : Option Refusal) (m : ℕ) (r : Refusal) → Writing.Refused r ≡ writing_of o m → o ≡ Some r
+writes_not : (o : Option Refusal) (m : ℕ) (r : Refusal) → Err r ≡ writing_of o m → o ≡ Some r
 writes_not None m r e = let z : ◌≡◌ {A = ℕ} 0 1 = cc in absurd (lt_irrefl 0 (omega arith))
 writes_not (Some q) m r e = cc
 
 module _ (table script lent after : List ℕ) (x : Writing) (w : Writes table script lent x after) where
-  pub write_written : (n : ℕ) → x ≡ Writing.Written n → WritesFile table script lent 0 n after
+  pub write_written : (n : ℕ) → x ≡ Ok n → WritesFile table script lent 0 n after
   write_written n a =
       let m = length (plan_file table script) in
       let e = writes (write_refusal table script (length lent)) m n (sym a ∙ w.answers) in
@@ -67,7 +66,7 @@ module _ (table script lent after : List ℕ) (x : Writing) (w : Writes table sc
         leaves = w.leaves;
       }
 
-  pub write_refused : (r : Refusal) (n i : ℕ) → x ≡ Writing.Refused r → n ≡ number_of r → i ≡ place_of r
+  pub write_refused : (r : Refusal) (n i : ℕ) → x ≡ Err r → n ≡ number_of r → i ≡ place_of r
       → WritesFile table script lent n i after
   write_refused r n i a hn hi =
       let m = length (plan_file table script) in

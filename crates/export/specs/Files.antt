@@ -1,7 +1,6 @@
 -- Plan files through numbers and lent memory: what the reader and the writer say, and the parts of an accepted file.
 -- Assumes nothing.
-use Rattle.std.specs.Prelude.{◌≡◌, cond, List, ◌++◌, ℕ, ltb, length, drop}
-use Rattle.std.specs.Option.{Option, None, Some}
+use Rattle.std.specs.Prelude.{◌≡◌, cond, List, ◌++◌, ℕ, ltb, length, drop, Option, None, Some}
 use Rattle.refusals.specs.Refusals.{number_of, place_of}
 use Rattle.refusals.specs.declared.Refusal.{Refusal}
 use Rattle.plan.specs.Numbers.{table_of}

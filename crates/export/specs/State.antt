@@ -1,8 +1,7 @@
 -- A machine as 258 numbers of 64 bits: the count of rows, the clock, then 8 numbers for each of the 32 places: T, D, C, K, E, the stage
 -- (0 Never, 1 Guest, 2 Hyper, 3 Closed), the arrival, the ticks used or left; 0 where the stage has none.
 -- Assumes nothing.
-use Rattle.std.specs.Prelude.{Bool, true, false, cond, ◌||◌, List, [], ◌∷◌, ◌++◌, ℕ, ◌+◌, ◌*◌, leb, ltb, eqb, length, get_or}
-use Rattle.std.specs.Option.{Option, None, Some}
+use Rattle.std.specs.Prelude.{Bool, true, false, cond, ◌||◌, List, [], ◌∷◌, ◌++◌, ℕ, ◌+◌, ◌*◌, leb, ltb, eqb, length, get_or, Option, None, Some}
 use Rattle.least.specs.Search.{first_where}
 use Rattle.least.specs.Lists.{list_of, flat}
 use Rattle.machine.specs.Rows.{no_row}

@@ -1,11 +1,10 @@
 -- One tick from the machine in lent numbers, its answer as 12 bytes. A refused tick touches nothing.
 -- Assumes nothing.
-use Rattle.std.specs.Prelude.{◌≡◌, cond, List, ◌++◌, ℕ, ltb, eqb, length, drop}
-use Rattle.std.specs.Option.{Option, None, Some}
+use Rattle.std.specs.Prelude.{◌≡◌, cond, List, ◌++◌, ℕ, ltb, eqb, length, drop, Option, None, Some, Ok, Err}
 use Rattle.refusals.specs.declared.Refusal.{Refusal}
 use Rattle.refusals.specs.declared.Refusal.TheVariants.{NotWellFormed, RecordBytes, OutputShort}
 use Rattle.machine.specs.TickRule.{step_of}
-use Rattle.machine.specs.declared.Answer.{Answer}
+use Rattle.machine.specs.Answers.{Answer}
 use Rattle.machine.specs.declared.Stepped.{Stepped}
 use Rattle.export.specs.Files.{refusal_number, refusal_place}
 use Rattle.export.specs.State.{state_of, machine_in, readable}
@@ -16,8 +15,8 @@ abbrev pub step_in : List ℕ → ℕ → ℕ → ℕ → Stepped
 step_in state mask signal early = step_of (machine_in state) mask signal (eqb early 1)
 
 abbrev pub refusal_in : Answer → Option Refusal
-refusal_in (Answer.Taken t) = None
-refusal_in (Answer.Refused r) = Some r
+refusal_in (Ok t) = None
+refusal_in (Err r) = Some r
 
 -- in this order: 17 for an early mark above 1 (as of the only record), 18 where the answer has no room, 8 for a state that can't be read,
 -- then the tick rule's own

@@ -1,8 +1,7 @@
 -- Ticks one after the other, and their answers as 12 bytes each: the clock before the tick (4 bytes, modulo 2^32), the refusal's place (4 bytes),
 -- who ran (0 nobody, 1 guest, 2 hypertask, 3 refused), the task or the refusal's number, the mark (0 none, 1 output, 2 budget used up), ignored 0 or 1.
 -- Assumes nothing.
-use Rattle.std.specs.Prelude.{◌≡◌, Bool, true, false, cond, List, [], ◌∷◌, ◌++◌, ℕ, zero, suc, ◌*◌, ◌/◌, ◌%◌, min, eqb, length, drop}
-use Rattle.std.specs.Option.{Option, None, Some}
+use Rattle.std.specs.Prelude.{◌≡◌, Bool, true, false, cond, List, [], ◌∷◌, ◌++◌, ℕ, zero, suc, ◌*◌, ◌/◌, ◌%◌, min, eqb, length, drop, Option, None, Some, Ok, Err}
 use Rattle.least.specs.Lists.{flat}
 use Rattle.refusals.specs.Refusals.{number_of, place_of}
 use Rattle.refusals.specs.declared.Refusal.{Refusal}
@@ -13,7 +12,7 @@ use Rattle.plan.specs.declared.Tick.{Tick}
 use Rattle.machine.specs.TickRule.{step_of}
 use Rattle.machine.specs.declared.Ran.{Ran}
 use Rattle.machine.specs.declared.Mark.{Mark}
-use Rattle.machine.specs.declared.Answer.{Answer}
+use Rattle.machine.specs.Answers.{Answer}
 use Rattle.machine.specs.declared.Machine.{Machine}
 use Rattle.machine.specs.declared.Stepped.{Stepped}
 use Rattle.export.specs.Files.{refusal_number, refusal_place}
@@ -42,8 +41,8 @@ bit_of false = 0
 
 -- the last eight bytes; a task is at most 32 and a refusal's number at most 19, so the low byte is the number
 abbrev pub said_of : Answer → List ℕ
-said_of (Answer.Taken t) = bytes_of 0 ++ (who_of t.ran ∷ task_of t.ran % 256 ∷ mark_of t.mark ∷ bit_of t.ignored ∷ [])
-said_of (Answer.Refused r) = bytes_of (place_of r) ++ (3 ∷ number_of r % 256 ∷ 0 ∷ 0 ∷ [])
+said_of (Ok t) = bytes_of 0 ++ (who_of t.ran ∷ task_of t.ran % 256 ∷ mark_of t.mark ∷ bit_of t.ignored ∷ [])
+said_of (Err r) = bytes_of (place_of r) ++ (3 ∷ number_of r % 256 ∷ 0 ∷ 0 ∷ [])
 
 abbrev pub answer_bytes : ℕ → Answer → List ℕ
 answer_bytes clock a = bytes_of clock ++ said_of a

@@ -2,24 +2,24 @@
 ghost use Rattle.std.specs.Prelude.{◌≡◌};
 ghost use Rattle.export.specs.Numbers.{number_in, place_in};
 
-use equations::Answer;
+use refusals::Refusal;
 
 // 0 where a table is accepted, else the refusal's number.
-pub(crate) fn number_in(a: Answer) -> u32
+pub(crate) fn number_in(a: Result<usize, Refusal>) -> u32
     ensures { result ≡ number_in a }
 {
     match a {
-        Answer::Accepted(_) => 0,
-        Answer::Refused(r) => r.number(),
+        Ok(_) => 0,
+        Err(r) => r.number(),
     }
 }
 
 // The number of tasks of an accepted table, else the refusal's place.
-pub(crate) fn place_in(a: Answer) -> u64
+pub(crate) fn place_in(a: Result<usize, Refusal>) -> u64
     ensures { result ≡ place_in a }
 {
     match a {
-        Answer::Accepted(n) => n as u64,
-        Answer::Refused(r) => r.place() as u64,
+        Ok(n) => n as u64,
+        Err(r) => r.place() as u64,
     }
 }

@@ -13,9 +13,7 @@ ghost use Rattle.export.specs.Step.{StepsMachine};
 ghost use Rattle.export.specs.Texts.{PrintsRun};
 ghost use Rattle.export.specs.Ticks.{TakesTicks};
 
-use machine::Answer;
-use plan::Writing;
-use report::Reported;
+use report::TooShort;
 
 // The analysis of a table: 0 and the number of tasks where it is accepted, else the refusal's number and place.
 pub fn tollsalmon_analyse(table: &[u32], results: &mut [u32], place: &mut u64) -> u32
@@ -97,12 +95,12 @@ pub fn tollsalmon_step(
     let s = m.step(mask, signal, early == 1);
     let a = s.answer;
     match a {
-        Answer::Taken(_) => {
+        Ok(_) => {
             ticks::put_answer(answer, 0, m.clock, a);
             state::put(state, s.machine);
             0
         }
-        Answer::Refused(r) => {
+        Err(r) => {
             *place = r.place() as u64;
             r.number()
         }
@@ -114,11 +112,11 @@ pub fn tollsalmon_check(file: &[u8], place: &mut u64) -> u32
     ensures { ChecksFile file.now result place.new }
 {
     match plan::reader::check(file) {
-        plan::Answer::Accepted => {
+        Ok(()) => {
             *place = 0;
             0
         }
-        plan::Answer::Refused(r) => {
+        Err(r) => {
             *place = r.place() as u64;
             r.number()
         }
@@ -130,7 +128,7 @@ pub fn tollsalmon_table(file: &[u8], table: &mut [u32]) -> u64
     ensures { ReadsTable file.now table.old result table.new }
 {
     let rows = plan::reader::rows_of(file);
-    plan::bodies::table_of(rows, table);
+    let _ = plan::bodies::table_of(rows, table);
     (rows.len() / 4) as u64
 }
 
@@ -151,11 +149,11 @@ pub fn tollsalmon_write(table: &[u32], script: &[u8], output: &mut [u8], place: 
     ensures { WritesFile table.now script.now output.old result place.new output.new }
 {
     match plan::writer::write(table, script, output) {
-        Writing::Written(n) => {
+        Ok(n) => {
             *place = n as u64;
             0
         }
-        Writing::Refused(r) => {
+        Err(r) => {
             *place = r.place() as u64;
             r.number()
         }
@@ -167,7 +165,7 @@ pub fn tollsalmon_report(file: &[u8], text: &mut [u8]) -> u64
     ensures { PrintsRun file.now text.old result text.new }
 {
     match report::report(file, text) {
-        Reported::Written(n) => n as u64,
-        Reported::TooShort(n) => n as u64,
+        Ok(n) => n as u64,
+        Err(TooShort { needed }) => needed as u64,
     }
 }

@@ -1,13 +1,13 @@
 // Ticks one after the other, with their answers as bytes.
-ghost use Rattle.std.specs.Prelude.{◌≡◌, ℕ, ◌+◌, ◌*◌, ◌/◌, ◌%◌, ◌<◌, ◌≤◌, min, [], ◌∷◌, ◌++◌, length, take, drop};
+ghost use Rattle.std.specs.Prelude.{◌≡◌, ℕ, ◌+◌, ◌*◌, ◌/◌, ◌%◌, ◌<◌, ◌≤◌, min, [], ◌∷◌, ◌++◌, length, take, drop, Ok, Err};
 ghost use Rattle.std.proofs.lemmas.List.Edits.{sets};
 ghost use Rattle.least.specs.Lists.{flat};
 ghost use Rattle.plan.specs.Numbers.{bytes_of};
 ghost use Rattle.plan.specs.Bodies.{tick_at};
 ghost use Rattle.export.specs.Ticks.{who_of, task_of, mark_of, bit_of, said_of, answer_bytes, machine_after, answer_to};
 
-use machine::{Answer, Machine, Mark, Ran, Taken};
-use plan::{Recorded, Tick};
+use machine::{Machine, Mark, Ran, Taken};
+use plan::Tick;
 use refusals::Refusal;
 
 // The four numbers of what a tick that was taken says.
@@ -72,7 +72,7 @@ fn put_four(answers: &mut [u8], at: usize, a: u8, b: u8, c: u8, d: u8)
 // What a tick that was taken says, in eight bytes from `at` on.
 fn put_taken(answers: &mut [u8], at: usize, t: Taken)
     requires { at + 8 ≤ length answers.old }
-    ensures { answers.new ≡ sets answers.old at (said_of (Answer.Taken t)) }
+    ensures { answers.new ≡ sets answers.old at (said_of (Ok t)) }
 {
     let ran = t.ran;
     let mark = t.mark;
@@ -90,25 +90,25 @@ fn put_taken(answers: &mut [u8], at: usize, t: Taken)
 // Why a tick was refused, in eight bytes from `at` on.
 fn put_refused(answers: &mut [u8], at: usize, r: Refusal)
     requires { at + 8 ≤ length answers.old }
-    ensures { answers.new ≡ sets answers.old at (said_of (Answer.Refused r)) }
+    ensures { answers.new ≡ sets answers.old at (said_of (Err r)) }
 {
     put_number(answers, at, r.place() as u64);
     put_four(answers, at + 4, 3, (r.number() % 256) as u8, 0, 0);
 }
 
 // What a tick says, in eight bytes from `at` on.
-fn put_said(answers: &mut [u8], at: usize, a: Answer)
+fn put_said(answers: &mut [u8], at: usize, a: Result<Taken, Refusal>)
     requires { at + 8 ≤ length answers.old }
     ensures { answers.new ≡ sets answers.old at (said_of a) }
 {
     match a {
-        Answer::Taken(t) => put_taken(answers, at, t),
-        Answer::Refused(r) => put_refused(answers, at, r),
+        Ok(t) => put_taken(answers, at, t),
+        Err(r) => put_refused(answers, at, r),
     }
 }
 
 // The answer to the tick at a clock, in twelve bytes from `at` on.
-pub(crate) fn put_answer(answers: &mut [u8], at: usize, clock: u64, a: Answer)
+pub(crate) fn put_answer(answers: &mut [u8], at: usize, clock: u64, a: Result<Taken, Refusal>)
     requires { at + 12 ≤ length answers.old }
     ensures { answers.new ≡ take at answers.old ++ answer_bytes clock a ++ drop (at + 12) answers.old }
 {
@@ -122,8 +122,8 @@ fn tick_of(records: &[u8], i: usize) -> Tick
     ensures { result ≡ tick_at records.now i }
 {
     match plan::bodies::record(records, i) {
-        Recorded::Record(t) => t,
-        Recorded::Missing => Tick {
+        Some(t) => t,
+        None => Tick {
             mask: 0,
             signal: 0,
             early: false,

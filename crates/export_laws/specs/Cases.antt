@@ -1,15 +1,13 @@
 -- Worked cases of the C interface, number by number: answers as 12 bytes, machines as 258 numbers, and what each function hands back.
 -- Assumes nothing.
-use Rattle.std.specs.Prelude.{ℕ, ◌^◌, ◌≡◌, Bool, true, false, List, [], ◌∷◌, ◌++◌, length, take, set, replicate}
-use Rattle.std.specs.Option.{None, Some}
+use Rattle.std.specs.Prelude.{ℕ, ◌^◌, ◌≡◌, Bool, true, false, List, [], ◌∷◌, ◌++◌, length, take, set, replicate, None, Some, Ok, Err}
 use Rattle.refusals.specs.declared.Refusal.{Refusal}
-use Rattle.equations.specs.declared.Answer.TheVariants.{Accepted, Refused}
 use Rattle.machine.specs.declared.Stage.{Stage}
 use Rattle.machine.specs.declared.Row.{Row}
 use Rattle.machine.specs.declared.Machine.{Machine}
 use Rattle.machine.specs.declared.Ran.{Ran}
 use Rattle.machine.specs.declared.Mark.{Mark}
-use Rattle.machine.specs.declared.Answer.{Answer}
+use Rattle.machine.specs.Answers.{Answer}
 use Rattle.machine.specs.Rows.{no_row}
 use Rattle.plan.specs.Cases.{table, script, plan_of_p2}
 use Rattle.export.specs.Numbers.{number_in, place_in}
@@ -22,7 +20,7 @@ use Rattle.export.specs.Ticks.{answer_bytes, ticks_refusal, ticks_taken, state_a
 -- ## Answers: clock (4 bytes), place (4), who, task or number, mark, ignored
 
 abbrev pub took : Ran → Mark → Bool → Answer
-took ran mark ignored = Answer.Taken (record { ran = ran; mark = mark; ignored = ignored })
+took ran mark ignored = Ok (record { ran = ran; mark = mark; ignored = ignored })
 
 pub record AnswersRight : Type 0 where
   pub guest : answer_bytes 0 (took (Ran.Guest 1) Mark.Nothing false) ≡ 0 ∷ 0 ∷ 0 ∷ 0 ∷ 0 ∷ 0 ∷ 0 ∷ 0 ∷ 1 ∷ 1 ∷ 0 ∷ 0 ∷ []
@@ -31,7 +29,7 @@ pub record AnswersRight : Type 0 where
   -- of the clock the lowest 32 bits
   pub hypertask : answer_bytes (2 ^ 32) (took (Ran.Hypertask 2) Mark.Output true) ≡ 0 ∷ 0 ∷ 0 ∷ 0 ∷ 0 ∷ 0 ∷ 0 ∷ 0 ∷ 2 ∷ 2 ∷ 1 ∷ 1 ∷ []
   pub nobody : answer_bytes 67305985 (took Ran.Nobody Mark.Nothing true) ≡ 1 ∷ 2 ∷ 3 ∷ 4 ∷ 0 ∷ 0 ∷ 0 ∷ 0 ∷ 0 ∷ 0 ∷ 0 ∷ 1 ∷ []
-  pub refusal : answer_bytes 9 (Answer.Refused (Refusal.ArrivalTooSoon 2)) ≡ 9 ∷ 0 ∷ 0 ∷ 0 ∷ 2 ∷ 0 ∷ 0 ∷ 0 ∷ 3 ∷ 11 ∷ 0 ∷ 0 ∷ []
+  pub refusal : answer_bytes 9 (Err (Refusal.ArrivalTooSoon 2)) ≡ 9 ∷ 0 ∷ 0 ∷ 0 ∷ 2 ∷ 0 ∷ 0 ∷ 0 ∷ 3 ∷ 11 ∷ 0 ∷ 0 ∷ []
 
 -- ## Machines: count, clock, then T D C K E, stage, arrival, used or left of each place
 
@@ -106,9 +104,9 @@ guest_at clock = clock ∷ 0 ∷ 0 ∷ 0 ∷ 0 ∷ 0 ∷ 0 ∷ 0 ∷ 1 ∷ 1 ∷
 
 pub record FunctionsRight : Type 0 where
   -- 0 and the number of tasks, or number and place
-  pub accepted : (number_in (Accepted 2) ≡ 0) × (place_in (Accepted 2) ≡ 2)
-  pub refused_7 : (number_in (Refused (Refusal.NoGuestWindow 1)) ≡ 7) × (place_in (Refused (Refusal.NoGuestWindow 1)) ≡ 1)
-  pub refused_19 : (number_in (Refused (Refusal.NoHypertaskWindow 2)) ≡ 19) × (place_in (Refused (Refusal.NoHypertaskWindow 2)) ≡ 2)
+  pub accepted : (number_in (Ok 2) ≡ 0) × (place_in (Ok 2) ≡ 2)
+  pub refused_7 : (number_in (Err (Refusal.NoGuestWindow 1)) ≡ 7) × (place_in (Err (Refusal.NoGuestWindow 1)) ≡ 1)
+  pub refused_19 : (number_in (Err (Refusal.NoHypertaskWindow 2)) ≡ 19) × (place_in (Err (Refusal.NoHypertaskWindow 2)) ≡ 2)
   -- a start of P2 into 259 numbers, and into one too few
   pub starts : (number_in (start_says table 259) ≡ 0) × (place_in (start_says table 259) ≡ 1)
   pub started : state_started table (replicate 259 9) ≡ p2_fresh ++ (9 ∷ [])

@@ -1,11 +1,10 @@
 -- What reading a state means, without the tests that compute it; what refused ticks leave; and a step beside a run of one record.
 -- Assumes nothing.
-use Rattle.std.specs.Prelude.{◌≡◌, true, List, [], ◌∷◌, ◌++◌, ℕ, ◌<◌, ◌^◌, length, get_or, drop, replicate}
-use Rattle.std.specs.Option.{None}
+use Rattle.std.specs.Prelude.{◌≡◌, true, List, [], ◌∷◌, ◌++◌, ℕ, ◌<◌, ◌^◌, length, get_or, drop, replicate, None, Err}
 use Rattle.refusals.specs.declared.Refusal.{Refusal}
 use Rattle.machine.specs.Rows.{no_row}
 use Rattle.machine.specs.declared.Row.{Row}
-use Rattle.machine.specs.declared.Answer.{Answer}
+use Rattle.machine.specs.Answers.{Answer}
 use Rattle.machine.specs.declared.Machine.{Machine}
 use Rattle.plan.specs.Numbers.{bytes_of}
 use Rattle.plan.specs.Bodies.{tick_at}
@@ -44,7 +43,7 @@ pub record ReadsExactly (l : List ℕ) : Type 0 where
 -- the tick of record i is refused by the machine in the state
 pub record IsRefused (state records : List ℕ) (i : ℕ) : Type 0 where
   pub why : Refusal
-  pub refused : (step_by (machine_in state) (tick_at records i)).answer ≡ Answer.Refused why
+  pub refused : (step_by (machine_in state) (tick_at records i)).answer ≡ Err why
 
 -- the record of a tick: mask (4 bytes), signal, early mark, two zero bytes
 abbrev pub tick_record : ℕ → ℕ → ℕ → List ℕ

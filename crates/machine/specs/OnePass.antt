@@ -1,11 +1,11 @@
 -- What the private functions of src/ find on their way over the rows, said by the searches of the tick rule. It is no second
 -- rule: the proofs tie it to TickRule and WellFormed, and no public function cites it. Assumes nothing.
-use Rattle.std.specs.Prelude.{ℕ, zero, suc, ◌+◌, ◌-◌, ◌^◌, Bool, true, false, not, cond, ◌&&◌, ◌||◌, List, ltb, eqb}
+use Rattle.std.specs.Prelude.{ℕ, zero, suc, ◌+◌, ◌-◌, ◌^◌, Bool, true, false, not, cond, ◌&&◌, ◌||◌, List, ltb, eqb, Ok, Err}
 use Rattle.refusals.specs.declared.Refusal.{Refusal}
 use Rattle.machine.specs.declared.Stage.{Stage}
 use Rattle.machine.specs.declared.Row.{Row}
 use Rattle.machine.specs.declared.Machine.{Machine}
-use Rattle.machine.specs.declared.Answer.{Answer}
+use Rattle.machine.specs.Answers.{Answer}
 use Rattle.machine.specs.declared.Taken.{Taken}
 use Rattle.machine.specs.declared.Stepped.{Stepped}
 use Rattle.machine.specs.declared.Seen.{Seen}
@@ -171,9 +171,9 @@ judged_by clock count mask w =
 
 -- the machine as it was given, and why
 abbrev pub refused_as : Machine → Refusal → Stepped
-refused_as m refusal = record { machine = m; answer = Answer.Refused refusal }
+refused_as m refusal = record { machine = m; answer = Err refusal }
 
 -- the rows after steps 1 to 4, with the clock one further and what the tick says
 abbrev pub taken_with : List Row → ℕ → ℕ → Taken → Stepped
 taken_with rows count clock says =
-    record { machine = record { rows = rows; count = count; clock = next_clock clock }; answer = Answer.Taken says }
+    record { machine = record { rows = rows; count = count; clock = next_clock clock }; answer = Ok says }

@@ -1,5 +1,5 @@
 -- What one tick does and when it is refused: document 01, "The tick rule" and refusals 8 to 12. Assumes nothing.
-use Rattle.std.specs.Prelude.{ℕ, ◌+◌, ◌-◌, ◌^◌, Bool, false, not, cond, ◌&&◌, ◌||◌, List, leb, ltb, eqb, get_or, set}
+use Rattle.std.specs.Prelude.{ℕ, ◌+◌, ◌-◌, ◌^◌, Bool, false, not, cond, ◌&&◌, ◌||◌, List, leb, ltb, eqb, get_or, set, Ok, Err}
 use Rattle.refusals.specs.declared.Refusal.{Refusal}
 use Rattle.machine.specs.declared.Stage.{Stage}
 use Rattle.machine.specs.declared.Row.{Row}
@@ -8,7 +8,7 @@ use Rattle.machine.specs.declared.Ran.{Ran}
 use Rattle.machine.specs.declared.Mark.{Mark}
 use Rattle.machine.specs.declared.Outcome.{Outcome}
 use Rattle.machine.specs.declared.Taken.{Taken}
-use Rattle.machine.specs.declared.Answer.{Answer}
+use Rattle.machine.specs.Answers.{Answer}
 use Rattle.machine.specs.declared.Stepped.{Stepped}
 use Rattle.machine.specs.Rows.{no_row, with_stage, in_mask, age, Found, at, none, first, or_else, map_from, is_hyper, has_begun, has_budget}
 use Rattle.machine.specs.WellFormed.{well_formed}
@@ -133,11 +133,11 @@ abbrev pub ran_on : ℕ → ℕ → List Row → ℕ → Bool → Found → Step
 ran_on count clock rows signal early (at i) =
     let r : Row = get_or rows i no_row in
     let o : Outcome = ran_from (i + 1) signal early r.c r.stage in
-    record { machine = record { rows = set rows i (with_stage r o.stage); count = count; clock = next_clock clock }; answer = Answer.Taken o.taken }
+    record { machine = record { rows = set rows i (with_stage r o.stage); count = count; clock = next_clock clock }; answer = Ok o.taken }
 ran_on count clock rows signal early none =
     record {
       machine = record { rows = rows; count = count; clock = next_clock clock };
-      answer = Answer.Taken (nobody_ran signal);
+      answer = Ok (nobody_ran signal);
     }
 
 -- a tick that is taken
@@ -148,7 +148,7 @@ taken m mask signal early =
 
 -- a refused tick returns the machine it was given
 abbrev pub step_by : Machine → ℕ → ℕ → Bool → Verdict → Stepped
-step_by m mask signal early (refused refusal) = record { machine = m; answer = Answer.Refused refusal }
+step_by m mask signal early (refused refusal) = record { machine = m; answer = Err refusal }
 step_by m mask signal early accepted = taken m mask signal early
 
 -- one tick: the next machine and the answer

@@ -65,18 +65,11 @@ pub struct Taken {
     pub ignored: bool,
 }
 
-// A tick is taken or refused.
-#[derive(Clone, Copy)]
-pub enum Answer {
-    Taken(Taken),
-    Refused(Refusal),
-}
-
 // The next machine, and what is said of the tick.
 #[derive(Clone, Copy)]
 pub struct Stepped {
     pub machine: Machine,
-    pub answer: Answer,
+    pub answer: Result<Taken, Refusal>,
 }
 
 // The next stage of the task that ran, and what the tick says of it.
@@ -506,7 +499,7 @@ fn refuse(m: Machine, refusal: Refusal) -> Stepped
 {
     Stepped {
         machine: m,
-        answer: Answer::Refused(refusal),
+        answer: Err(refusal),
     }
 }
 
@@ -521,7 +514,7 @@ fn advance(rows: [Row; 32], count: usize, clock: u64, taken: Taken) -> Stepped
             count: count,
             clock: clock + 1,
         },
-        answer: Answer::Taken(taken),
+        answer: Ok(taken),
     }
 }
 

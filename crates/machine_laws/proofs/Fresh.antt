@@ -7,8 +7,9 @@ use native.Mathlib.Omega.{arith}
 use lib.ListN.{length, replicate, length-append, length-replicate}
 use lib.Seq.{take_at, drop_at}
 use borrow.Author.Tests.{le-leb}
+use Rattle.std.specs.Prelude.{Err}
 use Rattle.refusals.specs.declared.Refusal.{Refusal}
-use Rattle.machine.specs.declared.Answer.{Answer}
+use Rattle.machine.specs.Answers.{Answer}
 use Rattle.machine.specs.declared.Stage.{Stage}
 use Rattle.machine.specs.declared.Row.{Row}
 use Rattle.machine.specs.Rows.{no_row, with_stage, map_from, every, how_many}
@@ -66,6 +67,6 @@ fresh_length rows clock most =
 
 -- the machine with no rows gets 8 in every tick
 pub no_rows : (clock mask signal : ℕ) (early : Bool)
-    → step_of (fresh_at [] clock) mask signal early ≡ record { machine = fresh_at [] clock; answer = Answer.Refused (Refusal.NotWellFormed 0) }
+    → step_of (fresh_at [] clock) mask signal early ≡ record { machine = fresh_at [] clock; answer = Err (Refusal.NotWellFormed 0) }
 unfolding step_of verdict well_formed fresh_at
 no_rows clock mask signal early = refl

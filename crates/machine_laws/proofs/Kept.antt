@@ -9,11 +9,12 @@ use lib.Dec.{leb, ltb, eqb}
 use lib.ListN.{length, get_or, set, length-set}
 use lib.Seq.{get_or-set_same, get_or-set_other}
 use borrow.Author.Tests.{ltb-false, eqb-true, eqb-false, le-leb, not-false}
+use Rattle.std.specs.Prelude.{Err}
 use Rattle.refusals.specs.declared.Refusal.{Refusal}
 use Rattle.machine.specs.declared.Stage.{Stage}
 use Rattle.machine.specs.declared.Row.{Row}
 use Rattle.machine.specs.declared.Machine.{Machine}
-use Rattle.machine.specs.declared.Answer.{Answer}
+use Rattle.machine.specs.Answers.{Answer}
 use Rattle.machine.specs.Rows.{no_row, with_stage, in_mask, Found, at, none, first, or_else, how_many, is_hyper, has_begun, has_budget}
 use Rattle.machine.specs.WellFormed.{fields_fit, stage_fits, row_fits, begun_row, is_blank, well_formed}
 use Rattle.machine.specs.TickRule.{past_last, too_soon, while_hyper, refuse_at, Verdict, refused, accepted}
@@ -254,15 +255,15 @@ formed_not_8 m mask p h e =
     go false none none none q = let z : ◌≡◌ {A = ℕ} 0 1 = cc in omega arith
 
 pub step_not_8 : (m : Machine) (mask signal : ℕ) (early : Bool) (p : ℕ) → well_formed m ≡ true
-    → (step_of m mask signal early).answer ≡ Answer.Refused (Refusal.NotWellFormed p) → ⊥
+    → (step_of m mask signal early).answer ≡ Err (Refusal.NotWellFormed p) → ⊥
 unfolding step_of taken
 step_not_8 m mask signal early p h e = go (verdict m mask) refl e
   where
     ran : (f : Found) → (ran_on m.count m.clock (turned m.clock mask m.rows) signal early f).answer
-        ≡ Answer.Refused (Refusal.NotWellFormed p) → ⊥
+        ≡ Err (Refusal.NotWellFormed p) → ⊥
     ran (at i) q = let z : ◌≡◌ {A = ℕ} 0 1 = cc in omega arith
     ran none q = let z : ◌≡◌ {A = ℕ} 0 1 = cc in omega arith
 
-    go : (v : Verdict) → verdict m mask ≡ v → (step_by m mask signal early v).answer ≡ Answer.Refused (Refusal.NotWellFormed p) → ⊥
+    go : (v : Verdict) → verdict m mask ≡ v → (step_by m mask signal early v).answer ≡ Err (Refusal.NotWellFormed p) → ⊥
     go (refused x) f q = let z : x ≡ Refusal.NotWellFormed p = cc in formed_not_8 m mask p h (f ∙ ap refused z)
     go accepted f q = ran (chosen (turned m.clock mask m.rows)) q

@@ -9,12 +9,13 @@ use native.Mathlib.Omega.{arith}
 use lib.Dec.{ltb, eqb}
 use lib.ListN.{length, get_or}
 use borrow.Author.Tests.{ltb-true, ltb-false, leb-true, eqb-true, eqb-false, lt-ltb, le-leb, eq-eqb, ne_eqb}
+use Rattle.std.specs.Prelude.{Ok}
 use Rattle.refusals.specs.declared.Refusal.{Refusal}
 use Rattle.machine.specs.declared.Stage.{Stage}
 use Rattle.machine.specs.declared.Row.{Row}
 use Rattle.machine.specs.declared.Machine.{Machine}
 use Rattle.machine.specs.declared.Taken.{Taken}
-use Rattle.machine.specs.declared.Answer.{Answer}
+use Rattle.machine.specs.Answers.{Answer}
 use Rattle.machine.specs.Rows.{no_row, in_mask, age, Found, at, none, first_from, first, is_hyper}
 use Rattle.machine.specs.WellFormed.{well_formed}
 use Rattle.machine.specs.TickRule.{younger_than, Verdict, refused, accepted, refuse_at, verdict, step_by, step_of}
@@ -235,7 +236,7 @@ module _ (m : Machine) (mask : ℕ) (long : length m.rows ≡ 32) where
         rw (is_well_formed.1 c, before_end n.in_time, known_exactly.1 n.known, (spaced_exactly c).1 n.spaced, free_exactly.1 n.free),
   )
 
-  pub taken_exactly : (signal : ℕ) (early : Bool) → ((said : Taken) × ((step_of m mask signal early).answer ≡ Answer.Taken said)) ↔ NoneApplies m mask
+  pub taken_exactly : (signal : ℕ) (early : Bool) → ((said : Taken) × ((step_of m mask signal early).answer ≡ Ok said)) ↔ NoneApplies m mask
   unfolding step_of
   taken_exactly signal early = (
     λ t. go (verdict m mask) refl t.0 t.1,
@@ -244,7 +245,7 @@ module _ (m : Machine) (mask : ℕ) (long : length m.rows ≡ 32) where
         (t.says, rw (accepted_exactly.1 n) t.answers),
   )
     where
-      go : (v : Verdict) → verdict m mask ≡ v → (said : Taken) → (step_by m mask signal early v).answer ≡ Answer.Taken said → NoneApplies m mask
+      go : (v : Verdict) → verdict m mask ≡ v → (said : Taken) → (step_by m mask signal early v).answer ≡ Ok said → NoneApplies m mask
       go (refused x) e said q = let z : ◌≡◌ {A = ℕ} 0 1 = cc in absurd (omega arith)
       go accepted e said q = accepted_exactly.0 e
 

@@ -4,10 +4,11 @@ use mathlib.Core.Path.{◌≡◌, refl, ◌∙◌, sym}
 use mathlib.Core.Bool.{Bool}
 use Prim.Native.Nat.{ℕ, ◌+◌}
 use native.Mathlib.Omega.{arith}
+use Rattle.std.specs.Prelude.{Ok, Err}
 use Rattle.refusals.specs.declared.Refusal.{Refusal}
 use Rattle.machine.specs.declared.Machine.{Machine}
 use Rattle.machine.specs.declared.Taken.{Taken}
-use Rattle.machine.specs.declared.Answer.{Answer}
+use Rattle.machine.specs.Answers.{Answer}
 use Rattle.machine.specs.declared.Stepped.{Stepped}
 use Rattle.machine.specs.Rows.{Found, at, none}
 use Rattle.machine.specs.TickRule.{Verdict, refused, accepted, verdict, chosen, turned, ran_on, taken, step_by, step_of}
@@ -21,7 +22,7 @@ module _ (m : Machine) (mask signal : ℕ) (early : Bool) where
   -- the machine and the answer of a tick that is taken, whoever ran
   pub record IsTaken (s : Stepped) : Type 0 where
     pub says : Taken
-    pub answers : s.answer ≡ Answer.Taken says
+    pub answers : s.answer ≡ Ok says
     pub ticks : s.machine.clock ≡ m.clock + 1
     pub rows : s.machine.count ≡ m.count
 
@@ -34,24 +35,24 @@ module _ (m : Machine) (mask signal : ℕ) (early : Bool) where
       go none = record { says = _; answers = refl; ticks = refl; rows = refl }
 
   -- a refused tick returns the machine it was given
-  pub refused_keeps : (x : Refusal) → (step_of m mask signal early).answer ≡ Answer.Refused x → (step_of m mask signal early).machine ≡ m
+  pub refused_keeps : (x : Refusal) → (step_of m mask signal early).answer ≡ Err x → (step_of m mask signal early).machine ≡ m
   unfolding step_of
   refused_keeps x h = go (verdict m mask) h
     where
-      go : (v : Verdict) → (step_by m mask signal early v).answer ≡ Answer.Refused x → (step_by m mask signal early v).machine ≡ m
+      go : (v : Verdict) → (step_by m mask signal early v).answer ≡ Err x → (step_by m mask signal early v).machine ≡ m
       go (refused y) q = refl
       go accepted q = let t = is_taken in let z : ◌≡◌ {A = ℕ} 0 1 = cc t.answers in absurd (omega arith)
 
   -- so its clock stays
-  pub refused_clock : (x : Refusal) → (step_of m mask signal early).answer ≡ Answer.Refused x → (step_of m mask signal early).machine.clock ≡ m.clock
+  pub refused_clock : (x : Refusal) → (step_of m mask signal early).answer ≡ Err x → (step_of m mask signal early).machine.clock ≡ m.clock
   refused_clock x h = rw (refused_keeps x h)
 
   -- a tick that is taken moves the clock by one
-  pub taken_clock : (t : Taken) → (step_of m mask signal early).answer ≡ Answer.Taken t → (step_of m mask signal early).machine.clock ≡ m.clock + 1
+  pub taken_clock : (t : Taken) → (step_of m mask signal early).answer ≡ Ok t → (step_of m mask signal early).machine.clock ≡ m.clock + 1
   unfolding step_of
   taken_clock t h = go (verdict m mask) h
     where
-      go : (v : Verdict) → (step_by m mask signal early v).answer ≡ Answer.Taken t → (step_by m mask signal early v).machine.clock ≡ m.clock + 1
+      go : (v : Verdict) → (step_by m mask signal early v).answer ≡ Ok t → (step_by m mask signal early v).machine.clock ≡ m.clock + 1
       go (refused y) q = let z : ◌≡◌ {A = ℕ} 0 1 = cc in absurd (omega arith)
       go accepted q = is_taken.ticks
 

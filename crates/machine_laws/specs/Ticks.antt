@@ -1,13 +1,13 @@
 -- Worked ticks: a machine, a tick, and what comes of it. A refusal is said by its number and place, and leaves the machine as it was; of a tick
 -- that is taken it is said who ran, the mark, whether a signal was ignored, and the stage of each task afterwards. Assumes nothing.
-use Rattle.std.specs.Prelude.{ℕ, ◌+◌, ◌-◌, ◌^◌, ◌≡◌, Bool, true, false, List, [], ◌∷◌, ◌++◌, length, replicate}
+use Rattle.std.specs.Prelude.{ℕ, ◌+◌, ◌-◌, ◌^◌, ◌≡◌, Bool, true, false, List, [], ◌∷◌, ◌++◌, length, replicate, Ok, Err}
 use Rattle.refusals.specs.Refusals.{number_of, place_of}
 use Rattle.machine.specs.declared.Stage.{Stage}
 use Rattle.machine.specs.declared.Row.{Row}
 use Rattle.machine.specs.declared.Machine.{Machine}
 use Rattle.machine.specs.declared.Ran.{Ran}
 use Rattle.machine.specs.declared.Mark.{Mark}
-use Rattle.machine.specs.declared.Answer.{Answer}
+use Rattle.machine.specs.Answers.{Answer}
 use Rattle.machine.specs.declared.Stepped.{Stepped}
 use Rattle.machine.specs.Rows.{no_row, with_stage}
 use Rattle.machine.specs.TickRule.{step_of}
@@ -20,8 +20,8 @@ pub data Says : Type 0 where
   took : Ran → Mark → Bool → Says
 
 abbrev pub says : Answer → Says
-says (Answer.Refused r) = refused (number_of r) (place_of r)
-says (Answer.Taken t) = took t.ran t.mark t.ignored
+says (Err r) = refused (number_of r) (place_of r)
+says (Ok t) = took t.ran t.mark t.ignored
 
 -- an answer and the machine afterwards
 pub record Outcome : Type 0 where

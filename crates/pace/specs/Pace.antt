@@ -1,11 +1,11 @@
 -- The same tick again and again from one machine, and what the answers say added up: for taking the time of ticks.
 -- Assumes nothing.
-use Rattle.std.specs.Prelude.{Bool, cond, List, ℕ, zero, suc, ◌+◌, ◌%◌, ltb, eqb}
+use Rattle.std.specs.Prelude.{Bool, cond, List, ℕ, zero, suc, ◌+◌, ◌%◌, ltb, eqb, Ok, Err}
 use Rattle.least.specs.Sums.{sum}
 use Rattle.refusals.specs.Refusals.{number_of}
 use Rattle.machine.specs.TickRule.{step_of}
 use Rattle.machine.specs.declared.Taken.{Taken}
-use Rattle.machine.specs.declared.Answer.{Answer}
+use Rattle.machine.specs.Answers.{Answer}
 use Rattle.machine.specs.declared.Machine.{Machine}
 use Rattle.export.specs.State.{readable, machine_in}
 use Rattle.export.specs.Ticks.{who_of, task_of, mark_of, bit_of}
@@ -15,8 +15,8 @@ abbrev pub taken_sum : Taken → ℕ
 taken_sum t = who_of t.ran + task_of t.ran % 256 + mark_of t.mark + bit_of t.ignored
 
 abbrev pub said_sum : Answer → ℕ
-said_sum (Answer.Taken t) = taken_sum t
-said_sum (Answer.Refused r) = 3 + number_of r % 256
+said_sum (Ok t) = taken_sum t
+said_sum (Err r) = 3 + number_of r % 256
 
 -- the machine after i ticks
 unfoldable pub machine_after : Machine → ℕ → ℕ → Bool → ℕ → Machine

@@ -5,7 +5,7 @@ ghost use Rattle.std.specs.Prelude.{◌≡◌, ℕ, ◌+◌, ◌≤◌};
 ghost use Rattle.pace.specs.Pace.{taken_sum, said_sum, ticks_sum, pace_of};
 
 use export::ticks;
-use machine::{Answer, Machine, Stepped, Taken};
+use machine::{Machine, Stepped, Taken};
 use refusals::Refusal;
 
 // The last four bytes of the answer to a tick that was taken, added up.
@@ -22,12 +22,12 @@ fn taken_sum(t: Taken) -> u64
 }
 
 // The last four bytes of an answer, added up.
-fn said_sum(a: Answer) -> u64
+fn said_sum(a: Result<Taken, Refusal>) -> u64
     ensures { (result ≡ said_sum a) × (result ≤ 1020) }
 {
     match a {
-        Answer::Taken(t) => taken_sum(t),
-        Answer::Refused(r) => 3 + (r.number() % 256) as u64,
+        Ok(t) => taken_sum(t),
+        Err(r) => 3 + (r.number() % 256) as u64,
     }
 }
 
@@ -39,7 +39,7 @@ fn run(m: Machine, mask: u32, signal: u8, early: bool, times: u64) -> u64
 {
     let mut s = Stepped {
         machine: m,
-        answer: Answer::Refused(Refusal::NotWellFormed(0)),
+        answer: Err(Refusal::NotWellFormed(0)),
     };
     let mut total: u64 = 0;
     for i in 0..times {

@@ -3,10 +3,7 @@
 use mathlib.Core.Path.{◌≡◌, sym, ◌∙◌}
 use mathlib.Core.List.{List}
 use Prim.Native.Nat.{ℕ}
-use Rattle.plan.specs.declared.Answer.{Answer}
-use Rattle.plan.specs.declared.Recorded.{Recorded}
-use Rattle.plan.specs.declared.Taken.{Taken}
-use Rattle.plan.specs.declared.Writing.{Writing}
+use Rattle.plan.specs.Answers.{Answer, Recorded, Taken, Writing}
 use Rattle.plan.specs.Refuse.{answer_of}
 use Rattle.plan.specs.PlanFile.{rows_kind, script_kind, read_refusal, part_of}
 use Rattle.plan.specs.Bodies.{record_of, Takes}

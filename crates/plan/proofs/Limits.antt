@@ -2,7 +2,7 @@
 -- cited. Assumes nothing.
 use mathlib.Core.Path.{◌≡◌, refl, ap}
 use mathlib.Core.List.{List}
-use Rattle.std.specs.Option.{None}
+use Rattle.std.specs.Prelude.{None}
 use Prim.Native.Nat.{ℕ, zero, suc, ◌+◌, ◌*◌, ◌%◌, ◌≤◌}
 use native.Mathlib.Omega.{arith}
 use borrow.Author.Tests.{le-ltb}

@@ -3,7 +3,7 @@
 use mathlib.Core.Path.{◌≡◌, sym, ap, ◌∙◌}
 use mathlib.Core.Bool.{false}
 use mathlib.Core.List.{List}
-use Rattle.std.specs.Option.{None}
+use Rattle.std.specs.Prelude.{None}
 use mathlib.Core.Logic.{⊎_elim}
 use Prim.Native.Nat.{ℕ, zero, suc, ◌+◌, ◌*◌, ◌≤◌, ◌<◌}
 use native.Mathlib.Nat.{lt_irrefl, eq-or-lt_of_le}

@@ -3,7 +3,7 @@
 use mathlib.Core.Path.{◌≡◌, refl, sym, ap, ◌∙◌}
 use mathlib.Core.Bool.{false}
 use mathlib.Core.List.{List, [], ◌∷◌, ◌++◌, append-nil}
-use Rattle.std.specs.Option.{Option, None, Some}
+use Rattle.std.specs.Prelude.{Option, None, Some, Ok}
 use Prim.Native.Nat.{ℕ, zero, suc, ◌+◌, ◌*◌, ◌/◌, ◌%◌, ◌≤◌, ◌<◌}
 use native.Mathlib.Nat.{lt_irrefl}
 use native.Mathlib.Omega.{arith}
@@ -11,8 +11,7 @@ use borrow.Author.Tests.{ne_eqb, le-ltb, eq-eqb}
 use lib.ListN.{length, take, drop}
 use lib.Seq.{take_at}
 use Rattle.refusals.specs.declared.Refusal.{Refusal}
-use Rattle.plan.specs.declared.Writing.{Writing}
-use Rattle.plan.specs.declared.Writing.TheVariants.{Written}
+use Rattle.plan.specs.Answers.{Writing}
 use Rattle.plan.specs.Numbers.{table_bytes, table_of, AllBelow}
 use Rattle.plan.specs.PlanFile.{Section, section, file_of, sections_of, body_of, rows_kind, script_kind, most_sections}
 use Rattle.plan.specs.PlanFile.{wrong_kind, wrong_rows, wrong_size, first_wrong_record, read_refusal, part_of}
@@ -120,7 +119,7 @@ module _ (t s : List ℕ) (room : ℕ) (fine : write_refusal t s room ≡ None) 
   written_table small = ap table_of written_rows ∙ numbers_again_all t small
 
 -- what the writer leaves in lent memory begins with a file that reads back to what it was given
-pub write_then_read : (t s lent after : List ℕ) (n : ℕ) → Writes t s lent (Written n) after → ReadsBack t s (take n after)
+pub write_then_read : (t s lent after : List ℕ) (n : ℕ) → Writes t s lent (Ok n) after → ReadsBack t s (take n after)
 write_then_read t s lent after n w =
     let e = written (write_refusal t s (length lent)) (length (plan_file t s)) n w.answers in
     let f : take n after ≡ plan_file t s =
@@ -133,7 +132,7 @@ write_then_read t s lent after n w =
       script_part = ap (part_of script_kind) f ∙ written_script t s (length lent) e.0;
     }
   where
-    written : (o : Option Refusal) (m n : ℕ) → Written n ≡ writing_of o m → (o ≡ None) × (n ≡ m)
+    written : (o : Option Refusal) (m n : ℕ) → Ok n ≡ writing_of o m → (o ≡ None) × (n ≡ m)
     written (Some r) m n e = let z : ◌≡◌ {A = ℕ} 0 1 = cc in absurd (lt_irrefl 0 (omega arith))
     written None m n e = (refl, cc)
 
@@ -195,11 +194,11 @@ module _ (f : List ℕ) (bytes : AllBelow 256 f) (accepted : read_refusal f ≡ 
 
   -- so the writer, given the parts of an accepted file and room, leaves that file and answers its length
   pub read_then_write : (lent after : List ℕ) (a : Writing) → length f ≤ length lent
-      → Writes (table_of (part_of rows_kind f)) (part_of script_kind f) lent a after → (a ≡ Written (length f)) × (after ≡ f ++ drop (length f) lent)
+      → Writes (table_of (part_of rows_kind f)) (part_of script_kind f) lent a after → (a ≡ Ok (length f)) × (after ≡ f ++ drop (length f) lent)
   read_then_write lent after a h w =
       let g = plan_file (table_of (part_of rows_kind f)) (part_of script_kind f) in
       let e = read_writable (length lent) h in (
-        w.answers ∙ ap (λ (o : Option Refusal). writing_of o (length g)) e ∙ ap (λ (x : List ℕ). Written (length x)) read_again,
+        w.answers ∙ ap (λ (o : Option Refusal). writing_of o (length g)) e ∙ ap (λ (x : List ℕ). Ok (length x)) read_again,
         w.leaves
             ∙ ap (λ (o : Option Refusal). after_writing o g lent) e
             ∙ ap (λ (x : List ℕ). x ++ drop (length x) lent) read_again,

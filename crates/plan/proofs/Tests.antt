@@ -3,7 +3,7 @@
 use mathlib.Core.Path.{◌≡◌, refl, ap}
 use mathlib.Core.Bool.{Bool, true, false, not, ◌||◌, or-true}
 use mathlib.Core.List.{List}
-use Rattle.std.specs.Option.{Option, None, Some}
+use Rattle.std.specs.Prelude.{Option, None, Some, Ok, Err}
 use Prim.Native.Nat.{ℕ, suc, ◌+◌, ◌-◌, ◌*◌, ◌≤◌, ◌<◌}
 use native.Mathlib.Nat.{lt_irrefl, pos_of_ne-zero}
 use native.Mathlib.Omega.{arith}
@@ -11,7 +11,6 @@ use borrow.Author.Tests.{lt-ltb, le-ltb, eq-eqb, ne_eqb}
 use lib.Dec.{ltb, eqb}
 use lib.ListN.{get_or}
 use Rattle.refusals.specs.declared.Refusal.{Refusal}
-use Rattle.plan.specs.declared.Answer.TheVariants.{Accepted, Refused}
 use Rattle.plan.specs.declared.Found.TheVariants.{At, Nothing}
 use Rattle.plan.specs.declared.Entry.{Entry}
 use Rattle.plan.specs.Refuse.{refuse_if, refuse_at, answer_of, found_of}
@@ -31,11 +30,11 @@ pub found_none : (o : Option ℕ) → Nothing ≡ found_of o → o ≡ None
 found_none None e = refl
 found_none (Some i) e = cc
 
-pub answer_some : (o : Option Refusal) (r : Refusal) → Refused r ≡ answer_of o → o ≡ Some r
+pub answer_some : (o : Option Refusal) (r : Refusal) → Err r ≡ answer_of o → o ≡ Some r
 answer_some None r e = cc
 answer_some (Some q) r e = cc
 
-pub answer_none : (o : Option Refusal) → Accepted ≡ answer_of o → o ≡ None
+pub answer_none : (o : Option Refusal) → (Ok tt) ≡ answer_of o → o ≡ None
 answer_none None e = refl
 answer_none (Some q) e = cc
 

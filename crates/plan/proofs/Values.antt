@@ -8,21 +8,21 @@ use borrow.Author.Tests.{lt-ltb, le-ltb, eq-eqb, ne_eqb}
 use lib.Dec.{eqb}
 use lib.ListN.{length, get_or, drop, set}
 use lib.Seq.{drop-cons, set_at, append_snoc}
+use Rattle.std.specs.Prelude.{Ok, None, Some}
 use Rattle.least.specs.Lists.{list_of}
 use Rattle.least.proofs.Lists.{length_list}
-use Rattle.plan.specs.declared.Recorded.TheVariants.{Record, Missing}
-use Rattle.plan.specs.declared.Taken.{Taken}
-use Rattle.plan.specs.declared.Taken.TheVariants.{Numbers, NotInFours, TooShort}
+use Rattle.plan.specs.Answers.{Taken}
+use Rattle.plan.specs.declared.RowsError.TheVariants.{NotInFours, TooShort}
 use Rattle.plan.specs.Numbers.{number_at, numbers_in, table_of}
 use Rattle.plan.specs.Bodies.{record_of, taken_of, after_taken, Takes}
 
 -- RECORDS
 pub record_there : (s : List ℕ) (i m b : ℕ) → i < length s / 8 → m ≡ number_at s (8 * i) → b ≡ get_or s (8 * i + 5) 0
-    → Record (record { mask = m; signal = get_or s (8 * i + 4) 0; early = eqb b 1 }) ≡ record_of s i
+    → Some (record { mask = m; signal = get_or s (8 * i + 4) 0; early = eqb b 1 }) ≡ record_of s i
 unfolding record_of
 record_there s i m b h p q = rw (lt-ltb _ _ h, p, q)
 
-pub record_missing : (s : List ℕ) (i : ℕ) → length s / 8 ≤ i → Missing ≡ record_of s i
+pub record_missing : (s : List ℕ) (i : ℕ) → length s / 8 ≤ i → None ≡ record_of s i
 unfolding record_of
 record_missing s i h = rw (le-ltb _ _ h)
 
@@ -54,6 +54,6 @@ module _ (rows lent : List ℕ) where
   too_short h g = takes _ lent (rw (eq-eqb _ _ h, lt-ltb _ _ g)) refl
 
   pub all_taken : (after : List ℕ) → length rows % 4 ≡ 0 → length rows / 4 ≤ length lent → after ≡ table_of rows ++ drop (length rows / 4) lent
-      → Takes rows lent (Numbers (length rows / 4)) after
+      → Takes rows lent (Ok (length rows / 4)) after
   unfolding taken_of
   all_taken after h g p = takes _ after (rw (eq-eqb _ _ h, le-ltb _ _ g)) p

@@ -3,7 +3,7 @@
 use mathlib.Core.Path.{◌≡◌, refl, sym, ap, ◌∙◌}
 use mathlib.Core.Bool.{Bool, true, false, cond}
 use mathlib.Core.List.{List, [], ◌∷◌, ◌++◌, append-nil, append_assoc}
-use Rattle.std.specs.Option.{Option, None, Some}
+use Rattle.std.specs.Prelude.{Option, None, Some, Ok, Err}
 use Prim.Native.Nat.{ℕ, suc, ◌+◌, ◌*◌, ◌%◌, ◌≤◌}
 use native.Mathlib.Omega.{arith}
 use borrow.Author.Tests.{ltb-false, eqb-true, not-false, eq-eqb, ne_eqb}
@@ -12,7 +12,6 @@ use lib.ListN.{length, length-append}
 use lib.Seq.{sets}
 use Rattle.refusals.specs.declared.Refusal.{Refusal}
 use Rattle.refusals.specs.declared.Refusal.TheVariants.{TableLength, FileLength, BodySize, RecordBytes, OutputShort}
-use Rattle.plan.specs.declared.Writing.TheVariants.{Written, Refused}
 use Rattle.plan.specs.Numbers.{bytes_of, table_bytes}
 use Rattle.plan.specs.Refuse.{refuse_if}
 use Rattle.plan.specs.PlanFile.{entry_bytes, contents, bodies, file_of, rows_kind, script_kind, wrong_length, first_wrong_record}
@@ -164,7 +163,7 @@ module _ (t s : List ℕ) (room : ℕ) where
 
 -- THE PROMISE, each way out
 module _ (t s lent : List ℕ) where
-  pub nothing_written : (r : Refusal) → write_refusal t s (length lent) ≡ Some r → Writes t s lent (Refused r) lent
+  pub nothing_written : (r : Refusal) → write_refusal t s (length lent) ≡ Some r → Writes t s lent (Err r) lent
   nothing_written r e =
       record {
         answers = sym (ap (λ (o : Option Refusal). writing_of o (length (plan_file t s))) e);
@@ -172,10 +171,10 @@ module _ (t s lent : List ℕ) where
       }
 
   pub file_written : (n : ℕ) (after : List ℕ) → write_refusal t s (length lent) ≡ None → n ≡ file_length (length t) (length s)
-      → after ≡ sets lent 0 (plan_file t s) → Writes t s lent (Written n) after
+      → after ≡ sets lent 0 (plan_file t s) → Writes t s lent (Ok n) after
   file_written n after e p q =
       record {
-        answers = ap Written (p ∙ sym (plan_length t s)) ∙ sym (ap (λ (o : Option Refusal). writing_of o (length (plan_file t s))) e);
+        answers = ap Ok (p ∙ sym (plan_length t s)) ∙ sym (ap (λ (o : Option Refusal). writing_of o (length (plan_file t s))) e);
         leaves = q
             ∙ sets_front lent (plan_file t s) (allowed t s (length lent) e).fits
             ∙ sym (ap (λ (o : Option Refusal). after_writing o (plan_file t s) lent) e);

@@ -1,11 +1,9 @@
 -- Bodies as values: document 01, "The plan file", rows of four numbers and tick records of 8 bytes.
 -- Assumes nothing.
-use Rattle.std.specs.Prelude.{◌≡◌, cond, List, [], ◌∷◌, ◌++◌, ℕ, ◌+◌, ◌*◌, ◌/◌, ◌%◌, ltb, eqb, length, get_or, drop}
+use Rattle.std.specs.Prelude.{◌≡◌, cond, List, [], ◌∷◌, ◌++◌, ℕ, ◌+◌, ◌*◌, ◌/◌, ◌%◌, ltb, eqb, length, get_or, drop, Ok, None, Some}
 use Rattle.plan.specs.declared.Tick.{Tick}
-use Rattle.plan.specs.declared.Recorded.{Recorded}
-use Rattle.plan.specs.declared.Recorded.TheVariants.{Record, Missing}
-use Rattle.plan.specs.declared.Taken.{Taken}
-use Rattle.plan.specs.declared.Taken.TheVariants.{Numbers, NotInFours, TooShort}
+use Rattle.plan.specs.Answers.{Recorded, Taken}
+use Rattle.plan.specs.declared.RowsError.TheVariants.{NotInFours, TooShort}
 use Rattle.plan.specs.Numbers.{number_at, bytes_of, table_of}
 
 -- record i of a script, from 0: "mask 4 bytes, signal 1, early mark 0 or 1, two zero bytes"
@@ -18,18 +16,18 @@ tick_bytes t = bytes_of t.mask ++ (t.signal ∷ cond t.early 1 0 ∷ 0 ∷ 0 ∷
 
 -- a script has a record for each whole eight of its bytes
 unfoldable pub record_of : List ℕ → ℕ → Recorded
-record_of s i = cond (ltb i (length s / 8)) (Record (tick_at s i)) Missing
+record_of s i = cond (ltb i (length s / 8)) (Some (tick_at s i)) None
 
 -- the bytes of rows, taken into lent numbers: how many they are, or why nothing was taken
 unfoldable pub taken_of : List ℕ → ℕ → Taken
 taken_of rows room =
     cond (eqb (length rows % 4) 0)
-    (cond (ltb room (length rows / 4)) (TooShort (length rows / 4)) (Numbers (length rows / 4)))
+    (cond (ltb room (length rows / 4)) (TooShort (length rows / 4)) (Ok (length rows / 4)))
     (NotInFours (length rows))
 
 -- the lent numbers afterwards
 abbrev pub after_taken : Taken → List ℕ → List ℕ → List ℕ
-after_taken (Numbers n) rows lent = table_of rows ++ drop n lent
+after_taken (Ok n) rows lent = table_of rows ++ drop n lent
 after_taken (NotInFours n) rows lent = lent
 after_taken (TooShort n) rows lent = lent
 

@@ -1,12 +1,10 @@
 -- Worked cases of the plan file: document 01's plan of P2 with eight records, whole and damaged, and the writer's refusals.
 -- Assumes nothing.
-use Rattle.std.specs.Prelude.{◌≡◌, Bool, true, false, List, [], ◌∷◌, ◌++◌, ℕ, ◌+◌, take, set, replicate}
-use Rattle.std.specs.Option.{Option, None, Some}
+use Rattle.std.specs.Prelude.{◌≡◌, Bool, true, false, List, [], ◌∷◌, ◌++◌, ℕ, ◌+◌, take, set, replicate, Option, None, Some, Ok}
 use Rattle.refusals.specs.declared.Refusal.{Refusal}
 use Rattle.refusals.specs.Refusals.{Line, line, line_of}
 use Rattle.plan.specs.declared.Tick.{Tick}
-use Rattle.plan.specs.declared.Recorded.TheVariants.{Record, Missing}
-use Rattle.plan.specs.declared.Taken.TheVariants.{Numbers, NotInFours, TooShort}
+use Rattle.plan.specs.declared.RowsError.TheVariants.{NotInFours, TooShort}
 use Rattle.plan.specs.Numbers.{table_bytes, table_of}
 use Rattle.plan.specs.Bodies.{tick_bytes, record_of, taken_of, after_taken}
 use Rattle.plan.specs.PlanFile.{read_refusal}
@@ -144,18 +142,18 @@ three_numbers = 10 ∷ 0 ∷ 0 ∷ 0 ∷ 64 ∷ 66 ∷ 15 ∷ 0 ∷ 255 ∷ 255 
 
 -- what comes of them
 pub record BodiesRight : Type 0 where
-  pub first_record : record_of two_records 0 ≡ Record (tick 67305985 5 true)
-  pub second_record : record_of two_records 1 ≡ Record (tick 2147483903 32 false)
-  pub no_third : record_of two_records 2 ≡ Missing
+  pub first_record : record_of two_records 0 ≡ Some (tick 67305985 5 true)
+  pub second_record : record_of two_records 1 ≡ Some (tick 2147483903 32 false)
+  pub no_third : record_of two_records 2 ≡ None
   -- half a record is none; a mark of 2, which no accepted script has, is no mark
-  pub half : record_of (take 15 two_records) 1 ≡ Missing
-  pub mark_of_2 : record_of (set two_records 5 2) 0 ≡ Record (tick 67305985 5 false)
+  pub half : record_of (take 15 two_records) 1 ≡ None
+  pub mark_of_2 : record_of (set two_records 5 2) 0 ≡ Some (tick 67305985 5 false)
   pub records_again : tick_bytes (tick 67305985 5 true) ++ tick_bytes (tick 2147483903 32 false) ≡ two_records
   pub numbers : table_of three_numbers ≡ 10 ∷ 1000000 ∷ 4294967295 ∷ []
   pub numbers_again : table_bytes (10 ∷ 1000000 ∷ 4294967295 ∷ []) ≡ three_numbers
   -- into four lent numbers, into two, and of bytes that aren't in fours
-  pub enough : taken_of three_numbers 4 ≡ Numbers 3
-  pub enough_after : after_taken (Numbers 3) three_numbers (9 ∷ 9 ∷ 9 ∷ 9 ∷ []) ≡ 10 ∷ 1000000 ∷ 4294967295 ∷ 9 ∷ []
+  pub enough : taken_of three_numbers 4 ≡ Ok 3
+  pub enough_after : after_taken (Ok 3) three_numbers (9 ∷ 9 ∷ 9 ∷ 9 ∷ []) ≡ 10 ∷ 1000000 ∷ 4294967295 ∷ 9 ∷ []
   pub too_few : taken_of three_numbers 2 ≡ TooShort 3
   pub too_few_after : after_taken (TooShort 3) three_numbers (9 ∷ 9 ∷ []) ≡ 9 ∷ 9 ∷ []
   pub not_in_fours : taken_of (take 7 three_numbers) 4 ≡ NotInFours 7

@@ -1,7 +1,6 @@
 -- What a plan is, apart from any file: document 01, "The plan file". The theorems are stated over it.
 -- Assumes nothing.
-use Rattle.std.specs.Prelude.{◌≡◌, false, List, [], ℕ, ◌≤◌, ◌<◌, length, get_or}
-use Rattle.std.specs.Option.{None}
+use Rattle.std.specs.Prelude.{◌≡◌, false, List, [], ℕ, ◌≤◌, ◌<◌, length, get_or, None}
 use Rattle.plan.specs.Numbers.{table_bytes, table_of, AllBelow}
 use Rattle.plan.specs.PlanFile.{Section, section, file_of, sections_of, body_of, rows_kind, script_kind, most_sections, wrong_kind, wrong_size}
 use Rattle.plan.specs.PlanFile.{first_wrong_record, read_refusal, part_of}

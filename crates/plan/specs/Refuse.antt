@@ -1,10 +1,8 @@
 -- Checks one after the other: the first that fails gives its refusal.
 -- Assumes nothing.
-use Rattle.std.specs.Prelude.{Bool, true, false, ℕ}
-use Rattle.std.specs.Option.{Option, None, Some}
+use Rattle.std.specs.Prelude.{Bool, true, false, ℕ, Option, None, Some, Ok, Err}
 use Rattle.refusals.specs.declared.Refusal.{Refusal}
-use Rattle.plan.specs.declared.Answer.{Answer}
-use Rattle.plan.specs.declared.Answer.TheVariants.{Accepted, Refused}
+use Rattle.plan.specs.Answers.{Answer}
 use Rattle.plan.specs.declared.Found.{Found}
 use Rattle.plan.specs.declared.Found.TheVariants.{At, Nothing}
 
@@ -20,8 +18,8 @@ refuse_at r None next = next
 
 -- as the code answers them
 abbrev pub answer_of : Option Refusal → Answer
-answer_of (Some r) = Refused r
-answer_of None = Accepted
+answer_of (Some r) = Err r
+answer_of None = (Ok tt)
 
 abbrev pub found_of : Option ℕ → Found
 found_of (Some k) = At k

@@ -1,11 +1,9 @@
 -- The writer: document 01, "The writer checks 1, then 16 and 17 on its script, 13 on the total, 18".
 -- Assumes nothing.
-use Rattle.std.specs.Prelude.{◌≡◌, Bool, not, ◌||◌, List, [], ◌∷◌, ◌++◌, ℕ, ◌%◌, ltb, eqb, length, drop}
-use Rattle.std.specs.Option.{Option, None, Some}
+use Rattle.std.specs.Prelude.{◌≡◌, Bool, not, ◌||◌, List, [], ◌∷◌, ◌++◌, ℕ, ◌%◌, ltb, eqb, length, drop, Option, None, Some, Ok, Err}
 use Rattle.refusals.specs.declared.Refusal.{Refusal}
 use Rattle.refusals.specs.declared.Refusal.TheVariants.{TableLength, FileLength, BodySize, RecordBytes, OutputShort}
-use Rattle.plan.specs.declared.Writing.{Writing}
-use Rattle.plan.specs.declared.Writing.TheVariants.{Written, Refused}
+use Rattle.plan.specs.Answers.{Writing}
 use Rattle.plan.specs.Numbers.{table_bytes}
 use Rattle.plan.specs.Refuse.{refuse_if, refuse_at}
 use Rattle.plan.specs.PlanFile.{Section, section, rows_kind, script_kind, file_of, wrong_length, first_wrong_record}
@@ -42,8 +40,8 @@ write_refusal table script room =
 
 -- the answer: the file's length, or the refusal
 abbrev pub writing_of : Option Refusal → ℕ → Writing
-writing_of (Some r) n = Refused r
-writing_of None n = Written n
+writing_of (Some r) n = Err r
+writing_of None n = Ok n
 
 -- the lent bytes afterwards: "a refused write writes nothing, and an accepted one nothing past the file"
 abbrev pub after_writing : Option Refusal → List ℕ → List ℕ → List ℕ

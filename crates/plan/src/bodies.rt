@@ -3,23 +3,23 @@ ghost use Rattle.std.specs.Prelude.{◌≡◌, ◌++◌, ◌+◌, ◌*◌, ◌�
 ghost use Rattle.plan.specs.Numbers.{number_at, numbers_in};
 ghost use Rattle.plan.specs.Bodies.{record_of, Takes};
 
-use super::{Recorded, Taken, Tick, byte, number};
+use super::{RowsError, Tick, byte, number};
 
 // Record i of a script, from 0, where there is one.
-pub fn record(script: &[u8], i: usize) -> Recorded
+pub fn record(script: &[u8], i: usize) -> Option<Tick>
     ensures { result ≡ record_of script.now i }
 {
     if i < script.len() / 8 {
         let mask = number(script, 8 * i) as u32;
         let signal = script[8 * i + 4];
         let early = byte(script, 8 * i + 5) == 1;
-        return Recorded::Record(Tick {
+        return Some(Tick {
             mask,
             signal,
             early,
         });
     }
-    Recorded::Missing
+    None
 }
 
 // The number at place i of a body of numbers.
@@ -41,16 +41,16 @@ fn take_all(rows: &[u8], table: &mut [u32], n: usize)
 }
 
 // The rows' bytes as numbers, at the front of the lent table. Nothing is touched where they aren't in fours or don't fit.
-pub fn table_of(rows: &[u8], table: &mut [u32]) -> Taken
+pub fn table_of(rows: &[u8], table: &mut [u32]) -> Result<usize, RowsError>
     ensures { Takes rows.now table.old result table.new }
 {
     let n = rows.len() / 4;
     if rows.len() % 4 != 0 {
-        return Taken::NotInFours(rows.len());
+        return Err(RowsError::NotInFours(rows.len()));
     }
     if table.len() < n {
-        return Taken::TooShort(n);
+        return Err(RowsError::TooShort(n));
     }
     take_all(rows, table, n);
-    Taken::Numbers(n)
+    Ok(n)
 }

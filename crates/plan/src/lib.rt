@@ -11,28 +11,12 @@ ghost use Rattle.plan.specs.Numbers.{number_at, bytes_of};
 ghost use Rattle.plan.specs.Refuse.{found_of};
 ghost use Rattle.plan.specs.PlanFile.{wrong_length, first_wrong_record};
 
-use refusals::Refusal;
-
 // The kinds of sections, and how many a plan has at most.
 const ROWS: usize = 1;
 
 const SCRIPT: usize = 2;
 
 const MOST_SECTIONS: usize = 2;
-
-// What the reader says of a file.
-#[derive(Clone, Copy)]
-pub enum Answer {
-    Accepted,
-    Refused(Refusal),
-}
-
-// What the writer says: the file's length, or why nothing was written.
-#[derive(Clone, Copy)]
-pub enum Writing {
-    Written(usize),
-    Refused(Refusal),
-}
 
 // One tick record of a script.
 #[derive(Clone, Copy)]
@@ -42,18 +26,9 @@ pub struct Tick {
     pub early: bool,
 }
 
-// A record of a script, where there is one.
+// Why rows weren't taken into lent numbers.
 #[derive(Clone, Copy)]
-pub enum Recorded {
-    Record(Tick),
-    Missing,
-}
-
-// What became of rows that were to be taken into lent numbers.
-#[derive(Clone, Copy)]
-pub enum Taken {
-    // how many numbers were taken
-    Numbers(usize),
+pub enum RowsError {
     // bytes that aren't in fours; how many they are
     NotInFours(usize),
     // lent numbers too few; how many are needed

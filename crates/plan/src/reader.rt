@@ -7,7 +7,7 @@ ghost use Rattle.plan.specs.PlanFile.{entries_refusal, read_refusal, part_of};
 ghost use Rattle.plan.specs.Inside.{Listed, Placed};
 
 use super::{
-    Answer, Ask, Entry, Found, MOST_SECTIONS, ROWS, SCRIPT, first_wrong_record, number,
+    Ask, Entry, Found, MOST_SECTIONS, ROWS, SCRIPT, first_wrong_record, number,
     wrong_length,
 };
 use refusals::Refusal;
@@ -133,37 +133,37 @@ fn body(file: &[u8], kind: usize) -> &[u8]
 }
 
 // 14 by entry, 15, 16 and 17.
-fn check_entries(file: &[u8]) -> Answer
+fn check_entries(file: &[u8]) -> Result<(), Refusal>
     requires { Listed file.now }
     ensures { result ≡ answer_of (entries_refusal file.now) }
 {
     let n = number(file, 0);
     if let Found::At(i) = first_entry(Ask::WrongKind, file, n) {
-        return Answer::Refused(Refusal::Contents(i + 1));
+        return Err(Refusal::Contents(i + 1));
     }
     if let Found::At(i) = first_entry(Ask::WrongPlace, file, n) {
-        return Answer::Refused(Refusal::BodyPlace(i + 1));
+        return Err(Refusal::BodyPlace(i + 1));
     }
     if let Found::At(i) = first_entry(Ask::WrongSize, file, n) {
-        return Answer::Refused(Refusal::BodySize(i + 1));
+        return Err(Refusal::BodySize(i + 1));
     }
     let script = body(file, SCRIPT);
     if let Found::At(r) = first_wrong_record(script, script.len() / 8) {
-        return Answer::Refused(Refusal::RecordBytes(r));
+        return Err(Refusal::RecordBytes(r));
     }
-    Answer::Accepted
+    Ok(())
 }
 
 // Whether a file is a plan, and if not, the first refusal by number.
-pub fn check(file: &[u8]) -> Answer
+pub fn check(file: &[u8]) -> Result<(), Refusal>
     ensures { result ≡ answer_of (read_refusal file.now) }
 {
     let len = file.len();
     if wrong_length(len) {
-        return Answer::Refused(Refusal::FileLength(len));
+        return Err(Refusal::FileLength(len));
     }
     if wrong_count(number(file, 0), len) {
-        return Answer::Refused(Refusal::Contents(0));
+        return Err(Refusal::Contents(0));
     }
     check_entries(file)
 }
@@ -172,7 +172,7 @@ pub fn check(file: &[u8]) -> Answer
 fn part_of(file: &[u8], kind: usize) -> &[u8]
     ensures { result.now ≡ part_of kind file.now }
 {
-    if let Answer::Refused(_) = check(file) {
+    if let Err(_) = check(file) {
         return &file[0..0];
     }
     body(file, kind)

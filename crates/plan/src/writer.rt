@@ -7,7 +7,7 @@ ghost use Rattle.plan.specs.PlanFile.{entry_bytes};
 ghost use Rattle.plan.specs.Writer.{plan_file, wrong_table, write_refusal, Writes};
 ghost use Rattle.plan.specs.Inside.{optional_bytes, section_count, file_length, head_bytes};
 
-use super::{Answer, Found, ROWS, SCRIPT, Writing, first_wrong_record, put_number, wrong_length};
+use super::{Found, ROWS, SCRIPT, first_wrong_record, put_number, wrong_length};
 use refusals::Refusal;
 
 // 1
@@ -33,26 +33,26 @@ fn file_length(m: usize, n: usize) -> usize
 }
 
 // 1, 16, 17, 13 and 18.
-fn check_write(table: &[u32], script: &[u8], room: usize) -> Answer
+fn check_write(table: &[u32], script: &[u8], room: usize) -> Result<(), Refusal>
     ensures { result ≡ answer_of (write_refusal table.now script.now room) }
 {
     if wrong_table(table.len()) {
-        return Answer::Refused(Refusal::TableLength(table.len()));
+        return Err(Refusal::TableLength(table.len()));
     }
     if script.len() % 8 != 0 {
-        return Answer::Refused(Refusal::BodySize(2));
+        return Err(Refusal::BodySize(2));
     }
     if let Found::At(r) = first_wrong_record(script, script.len() / 8) {
-        return Answer::Refused(Refusal::RecordBytes(r));
+        return Err(Refusal::RecordBytes(r));
     }
     let need = file_length(table.len(), script.len());
     if wrong_length(need) {
-        return Answer::Refused(Refusal::FileLength(need));
+        return Err(Refusal::FileLength(need));
     }
     if room < need {
-        return Answer::Refused(Refusal::OutputShort(need));
+        return Err(Refusal::OutputShort(need));
     }
-    Answer::Accepted
+    Ok(())
 }
 
 // An entry of the contents, from `at` on.
@@ -120,12 +120,10 @@ fn put_file(output: &mut [u8], table: &[u32], script: &[u8])
 }
 
 // The file of a table and a script, at the front of the lent output: its length, or why nothing was written.
-pub fn write(table: &[u32], script: &[u8], output: &mut [u8]) -> Writing
+pub fn write(table: &[u32], script: &[u8], output: &mut [u8]) -> Result<usize, Refusal>
     ensures { Writes table.now script.now output.old result output.new }
 {
-    if let Answer::Refused(r) = check_write(table, script, output.len()) {
-        return Writing::Refused(r);
-    }
+    check_write(table, script, output.len())?;
     put_file(output, table, script);
-    Writing::Written(file_length(table.len(), script.len()))
+    Ok(file_length(table.len(), script.len()))
 }

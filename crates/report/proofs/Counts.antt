@@ -11,13 +11,14 @@ use lib.Dec.{eqb}
 use lib.ListN.{length, get_or, set, replicate, get_or-replicate}
 use lib.Seq.{get_or-set_same, get_or-set_other}
 use borrow.Author.Tests.{eq-eqb, ne_eqb}
+use Rattle.std.specs.Prelude.{Ok, Err}
 use Rattle.least.specs.Sums.{sum}
 use Rattle.machine.specs.Rows.{in_mask}
 use Rattle.machine.specs.TickRule.{step_of}
 use Rattle.machine.specs.declared.Machine.{Machine}
 use Rattle.machine.specs.declared.Ran.{Ran}
 use Rattle.machine.specs.declared.Mark.{Mark}
-use Rattle.machine.specs.declared.Answer.{Answer}
+use Rattle.machine.specs.Answers.{Answer}
 use Rattle.machine.proofs.Mask.{empty_mask}
 use Rattle.demands.specs.Runs.{Tick, TakenTick, Run, taken_by, after, run}
 use Rattle.demands.specs.Jobs.{is_output, is_guest_of, is_hypertask_of, brought, guest_gives, hypertask_gives, one, number_of}
@@ -115,7 +116,7 @@ module _ (r : Run) (t : Tick) (a g h a' g' h' : List ℕ) (old : Totals r.taken 
   by_answer : (x : Answer) → Added a (λ i. brings_to t.mask i x) a' → Added g (λ i. guest_gives_to i x) g'
       → Added h (λ i. hypertask_gives_to i x) h'
       → Totals (r.taken ++ taken_by t x) a' g' h'
-  by_answer (Answer.Taken said) p q s =
+  by_answer (Ok said) p q s =
       let e : TakenTick = record { tick = t; said = said } in
       record {
         long_a = long_a;
@@ -126,7 +127,7 @@ module _ (r : Run) (t : Tick) (a g h a' g' h' : List ℕ) (old : Totals r.taken 
         hypertasks = λ i b.
             omega (arith, s i b, ap one (hypertask_as said.mark said.ran i), old.hypertasks i b, hypertask_outputs_of_more r.taken e i);
       }
-  by_answer (Answer.Refused refusal) p q s =
+  by_answer (Err refusal) p q s =
       rw (append-nil r.taken) (record {
         long_a = long_a;
         long_g = long_g;

@@ -2,7 +2,7 @@
 use mathlib.Core.Path.{◌≡◌, ap, ◌∙◌}
 use mathlib.Core.Bool.{Bool, true, false, cond}
 use mathlib.Core.List.{List}
-use Rattle.std.specs.Option.{None}
+use Rattle.std.specs.Prelude.{None, Some, Ok}
 use Prim.Native.Nat.{ℕ, zero, suc, ◌/◌, ◌%◌, ◌≤◌, ◌<◌}
 use native.Mathlib.Omega.{arith}
 use lib.Dec.{eqb, ltb}
@@ -12,10 +12,8 @@ use borrow.Author.Tests.{eq-eqb, lt-ltb, le-ltb, ltb-false}
 use Rattle.plan.specs.Numbers.{table_of, AllBelow}
 use Rattle.plan.specs.Bodies.{tick_at, record_of, taken_of, after_taken, Takes}
 use Rattle.plan.specs.declared.Tick.{Tick}
-use Rattle.plan.specs.declared.Recorded.TheVariants.{Record, Missing}
 use Rattle.plan.specs.PlanFile.{section_at, sections_from, sections_of, body_of, read_refusal, part_of, rows_kind, entry_at, count}
-use Rattle.plan.specs.declared.Taken.{Taken}
-use Rattle.plan.specs.declared.Taken.TheVariants.{Numbers}
+use Rattle.plan.specs.Answers.{Taken}
 use Rattle.plan.proofs.Tests.{or_inv}
 use Rattle.plan.proofs.Entries.{the_part, passed}
 use Rattle.plan.proofs.Values.{numbers_length}
@@ -55,19 +53,19 @@ module _ (f : List ℕ) (accepted : read_refusal f ≡ None) where
     unfolding taken_of
     taken_rows answer after t =
         let n = length (part_of rows_kind f) in
-        let e : taken_of (part_of rows_kind f) 128 ≡ Numbers (n / 4) = rw (eq-eqb (n % 4) 0 (omega (arith, rows_fit.1)), le-ltb 128 (n / 4) rows_few) in
+        let e : taken_of (part_of rows_kind f) 128 ≡ Ok (n / 4) = rw (eq-eqb (n % 4) 0 (omega (arith, rows_fit.1)), le-ltb 128 (n / 4) rows_few) in
         ap (take (n / 4)) (t.leaves ∙ ap (λ (x : Taken). after_taken x (part_of rows_kind f) (replicate 128 0)) e)
         ∙ take_at (table_of (part_of rows_kind f)) (drop (n / 4) (replicate 128 0)) (n / 4) (numbers_length (part_of rows_kind f) (n / 4))
 
 -- ## Records
 
-pub record_read : (s : List ℕ) (i : ℕ) (t : Tick) → i < length s / 8 → Record t ≡ record_of s i → t ≡ tick_at s i
+pub record_read : (s : List ℕ) (i : ℕ) (t : Tick) → i < length s / 8 → Some t ≡ record_of s i → t ≡ tick_at s i
 unfolding record_of
-record_read s i t h e = let z : Record t ≡ Record (tick_at s i) = rw (lt-ltb i (length s / 8) h) at e in cc
+record_read s i t h e = let z : Some t ≡ Some (tick_at s i) = rw (lt-ltb i (length s / 8) h) at e in cc
 
-pub record_there : (s : List ℕ) (i : ℕ) → i < length s / 8 → Missing ≡ record_of s i → ⊥
+pub record_there : (s : List ℕ) (i : ℕ) → i < length s / 8 → None ≡ record_of s i → ⊥
 unfolding record_of
 record_there s i h e =
-    let z : Missing ≡ Record (tick_at s i) = rw (lt-ltb i (length s / 8) h) at e in
+    let z : None ≡ Some (tick_at s i) = rw (lt-ltb i (length s / 8) h) at e in
     let y : ◌≡◌ {A = ℕ} 0 1 = cc in
     omega arith

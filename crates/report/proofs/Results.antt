@@ -5,11 +5,11 @@ use Prim.Native.Nat.{ℕ, zero, suc, ◌+◌, ◌-◌, ◌*◌, ◌≤◌, ◌<�
 use native.Mathlib.Numerals.{add-one}
 use native.Mathlib.Omega.{arith}
 use lib.ListN.{length, get_or, drop}
+use Rattle.std.specs.Prelude.{Ok}
 use Rattle.least.proofs.Lists.{flat_at}
 use Rattle.equations.specs.Hypertask.{response, value_of, E}
 use Rattle.equations.specs.Guest.{guest}
 use Rattle.equations.specs.Analysis.{analysis, three_of, results, results_after}
-use Rattle.equations.specs.declared.Answer.TheVariants.{Accepted}
 use Rattle.equations.proofs.Exactly.{passes}
 use Rattle.start.specs.Start.{start_answer}
 use Rattle.start.proofs.Places.{same_answer}
@@ -48,8 +48,8 @@ module _ (s rest : List ℕ) (n : ℕ) where
       rw (first_at i (omega arith), second_at i (omega arith), third_at i (omega arith), lines_from k (suc i) (omega arith))
 
 -- the results that an accepted table leaves
-module _ (s lent : List ℕ) (n : ℕ) (room : length lent ≡ 96) (accepted : start_answer s ≡ Accepted n) where
-  analysed : analysis s (length lent) ≡ Accepted n
+module _ (s lent : List ℕ) (n : ℕ) (room : length lent ≡ 96) (accepted : start_answer s ≡ Ok n) where
+  analysed : analysis s (length lent) ≡ Ok n
   analysed = same_answer s lent room ∙ accepted
 
   pub tasks_few : n ≤ 32

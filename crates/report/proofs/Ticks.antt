@@ -5,8 +5,9 @@ use Prim.Native.Nat.{ℕ, zero, suc, ◌+◌, ◌-◌, ◌≤◌, ◌<◌}
 use native.Mathlib.Numerals.{add-one}
 use native.Mathlib.Omega.{arith}
 use lib.ListN.{length, length-append}
+use Rattle.std.specs.Prelude.{Ok, Err}
 use Rattle.machine.specs.declared.Machine.{Machine}
-use Rattle.machine.specs.declared.Answer.{Answer}
+use Rattle.machine.specs.Answers.{Answer}
 use Rattle.machine.specs.declared.Stepped.{Stepped}
 use Rattle.machine.specs.TickRule.{step_of}
 use Rattle.plan.specs.declared.Tick.{Tick as PlanTick}
@@ -31,8 +32,8 @@ so_far_more m s i =
 
 -- no more ticks are taken than were asked for
 by_one : (t : Tick) (x : Answer) → length (taken_by t x) ≤ 1
-by_one t (Answer.Taken said) = omega arith
-by_one t (Answer.Refused refusal) = omega arith
+by_one t (Ok said) = omega arith
+by_one t (Err refusal) = omega arith
 
 after_length : (r : Run) (t : Tick) → length (after r t).taken ≤ length r.taken + 1
 unfolding after

@@ -1,10 +1,10 @@
 -- What the private functions tell each other; the public promise names none of it. Assumes nothing.
-use Rattle.std.specs.Prelude.{◌≡◌, Bool, false, List, [], ◌∷◌, ◌++◌, ℕ, zero, suc, ◌+◌, ◌*◌, ◌-◌, ◌≤◌, ◌<◌, eqb, length, get_or}
+use Rattle.std.specs.Prelude.{◌≡◌, Bool, false, List, [], ◌∷◌, ◌++◌, ℕ, zero, suc, ◌+◌, ◌*◌, ◌-◌, ◌≤◌, ◌<◌, eqb, length, get_or, Ok, Err}
 use Rattle.machine.specs.Rows.{in_mask}
 use Rattle.machine.specs.declared.Machine.{Machine}
 use Rattle.machine.specs.declared.Ran.{Ran}
 use Rattle.machine.specs.declared.Mark.{Mark}
-use Rattle.machine.specs.declared.Answer.{Answer}
+use Rattle.machine.specs.Answers.{Answer}
 use Rattle.demands.specs.Runs.{Tick, TakenTick, run}
 use Rattle.demands.specs.Jobs.{one, jobs_arrived, guest_outputs_of, hypertask_outputs_of, jobs_open}
 use Rattle.text.specs.Lines.{row_line, task_line}
@@ -36,16 +36,16 @@ if_output Mark.BudgetUsedUp task = 0
 
 -- what an answer adds to the counts of row i: an arrival, a guest's output, a hypertask's
 abbrev pub brings_to : ℕ → ℕ → Answer → Bool
-brings_to mask i (Answer.Taken taken) = in_mask mask i
-brings_to mask i (Answer.Refused refusal) = false
+brings_to mask i (Ok taken) = in_mask mask i
+brings_to mask i (Err refusal) = false
 
 abbrev pub guest_gives_to : ℕ → Answer → Bool
-guest_gives_to i (Answer.Taken taken) = eqb (if_output taken.mark (guest_in taken.ran)) (i + 1)
-guest_gives_to i (Answer.Refused refusal) = false
+guest_gives_to i (Ok taken) = eqb (if_output taken.mark (guest_in taken.ran)) (i + 1)
+guest_gives_to i (Err refusal) = false
 
 abbrev pub hypertask_gives_to : ℕ → Answer → Bool
-hypertask_gives_to i (Answer.Taken taken) = eqb (if_output taken.mark (hypertask_in taken.ran)) (i + 1)
-hypertask_gives_to i (Answer.Refused refusal) = false
+hypertask_gives_to i (Ok taken) = eqb (if_output taken.mark (hypertask_in taken.ran)) (i + 1)
+hypertask_gives_to i (Err refusal) = false
 
 -- the counters hold demand 3's counts of the ticks taken
 pub record Totals (l : List TakenTick) (a g h : List ℕ) : Type 0 where

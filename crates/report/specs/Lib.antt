@@ -1,3 +1,4 @@
+pub mod Answers
 pub mod Report
 pub mod Example
 pub mod Inside

@@ -1,14 +1,12 @@
 -- The whole text of a plan's run, from the file's bytes: document 01, the end of "Cases". The reader, the analysis, the start and the tick rule are
 -- those of their own crates; the totals are counted from the ticks taken. Assumes nothing.
-use Rattle.std.specs.Prelude.{Bool, true, false, List, [], ◌∷◌, ◌++◌, ◌≡◌, ℕ, zero, suc, ◌+◌, ◌/◌, leb, length, drop}
-use Rattle.std.specs.Option.{Option, None, Some}
+use Rattle.std.specs.Prelude.{Bool, true, false, List, [], ◌∷◌, ◌++◌, ◌≡◌, ℕ, zero, suc, ◌+◌, ◌/◌, leb, length, drop, Option, None, Some, Ok, Err}
 use Rattle.refusals.specs.declared.Refusal.{Refusal}
 use Rattle.equations.specs.Table.{T, D, C, K}
 use Rattle.equations.specs.Analysis.{three_of}
-use Rattle.equations.specs.declared.Answer.{Answer}
-use Rattle.equations.specs.declared.Answer.TheVariants.{Accepted, Refused}
+use Rattle.equations.specs.Answers.{Answer}
 use Rattle.machine.specs.declared.Machine.{Machine}
-use Rattle.machine.specs.declared.Answer.{Answer as TickAnswer}
+use Rattle.machine.specs.Answers.{Answer as TickAnswer}
 use Rattle.machine.specs.TickRule.{step_of}
 use Rattle.start.specs.Start.{start_answer, start_of}
 use Rattle.plan.specs.Numbers.{table_of}
@@ -17,8 +15,7 @@ use Rattle.plan.specs.PlanFile.{read_refusal, part_of, rows_kind, script_kind}
 use Rattle.demands.specs.Runs.{Tick, TakenTick, Run, after, run}
 use Rattle.demands.specs.Jobs.{jobs_arrived, guest_outputs_of, hypertask_outputs_of, jobs_open}
 use Rattle.text.specs.Lines.{accept_line, row_line, refuse_line, tick_line, task_line}
-use Rattle.report.specs.declared.Reported.{Reported}
-use Rattle.report.specs.declared.Reported.TheVariants.{Written, TooShort}
+use Rattle.report.specs.Answers.{Reported, too_short}
 
 -- "task, T, D, C, K, R, E, G", of n rows from row i on
 unfoldable pub row_lines : List ℕ → ℕ → ℕ → List ℕ
@@ -57,8 +54,8 @@ script_text m script n = tick_lines (run m []) (ticks_of script) ++ task_lines (
 
 -- "A refused plan or table prints only REFUSE number place"
 abbrev pub answer_by : List ℕ → List ℕ → Answer → List ℕ
-answer_by s script (Refused refusal) = refuse_line refusal
-answer_by s script (Accepted n) = accept_line n ++ row_lines s 0 n ++ script_text (start_of s).machine script n
+answer_by s script (Err refusal) = refuse_line refusal
+answer_by s script (Ok n) = accept_line n ++ row_lines s 0 n ++ script_text (start_of s).machine script n
 
 unfoldable pub table_text : List ℕ → List ℕ → List ℕ
 table_text s script = answer_by s script (start_answer s)
@@ -72,7 +69,7 @@ text_of file = plan_by file (read_refusal file)
 
 -- the lent bytes hold the text at their front and are as they were past it; or they are too short and as they were
 abbrev pub reported_by : Bool → List ℕ → Reported
-reported_by true text = Written (length text)
+reported_by true text = Ok (length text)
 reported_by false text = TooShort (length text)
 
 abbrev pub left_by : Bool → List ℕ → List ℕ → List ℕ

@@ -5,36 +5,32 @@ mod rows;
 mod script;
 mod totals;
 
-ghost use Rattle.std.specs.Prelude.{◌≡◌, ◌≤◌, length};
-ghost use Rattle.equations.specs.declared.Answer.TheVariants.{Accepted};
+ghost use Rattle.std.specs.Prelude.{◌≡◌, ◌≤◌, length, Ok};
 ghost use Rattle.start.specs.Start.{start_answer, start_of};
 ghost use Rattle.text.specs.Put.{Put};
 ghost use Rattle.report.specs.Report.{answer_by, table_text, text_of, Reports};
 ghost use Rattle.report.specs.Inside.{longest};
 
-use equations::Answer;
 use machine::Machine;
 use text::lines::{put_accept, put_refusal};
 
 // Lent bytes from which no text can be too long.
 const LONGEST: usize = 655360;
 
+// Lent bytes too few; how many are needed.
 #[derive(Clone, Copy)]
-pub enum Reported {
-    // how many bytes were written
-    Written(usize),
-    // how many bytes are needed
-    TooShort(usize),
+pub struct TooShort {
+    pub needed: usize,
 }
 
 // The text of an accepted table of n tasks and a script.
 fn put_accepted(text: &mut [u8], m: Machine, n: usize, table: &[u32], script: &[u8]) -> usize
-    requires { (start_answer table.now ≡ Accepted n) × (m ≡ (start_of table.now).machine) × (length script.now ≤ 65536) }
-    ensures puts { Put text.old 0 (answer_by table.now script.now (Accepted n)) text.new result }
+    requires { (start_answer table.now ≡ Ok n) × (m ≡ (start_of table.now).machine) × (length script.now ≤ 65536) }
+    ensures puts { Put text.old 0 (answer_by table.now script.now (Ok n)) text.new result }
     ensures short { result ≤ longest }
 {
     let mut results = [0u32; 96];
-    analysis::analyse(table, &mut results);
+    let _ = analysis::analyse(table, &mut results);
     let a = put_accept(text, 0, n as u64);
     let b = rows::put_rows(text, a, table, &results, n);
     script::put_script(text, b, m, n, script)
@@ -49,8 +45,8 @@ fn put_table(text: &mut [u8], table: &[u32], script: &[u8]) -> usize
     let started = start::start(table);
     let answer = started.answer;
     match answer {
-        Answer::Accepted(n) => put_accepted(text, started.machine, n, table, script),
-        Answer::Refused(refusal) => put_refusal(text, 0, refusal),
+        Ok(n) => put_accepted(text, started.machine, n, table, script),
+        Err(refusal) => put_refusal(text, 0, refusal),
     }
 }
 
@@ -59,12 +55,12 @@ fn put_text(text: &mut [u8], file: &[u8]) -> usize
     ensures puts { Put text.old 0 (text_of file.now) text.new result }
     ensures short { result ≤ longest }
 {
-    if let plan::Answer::Refused(refusal) = plan::reader::check(file) {
+    if let Err(refusal) = plan::reader::check(file) {
         return put_refusal(text, 0, refusal);
     }
     let mut table = [0u32; 128];
     let rows = plan::reader::rows_of(file);
-    plan::bodies::table_of(rows, &mut table);
+    let _ = plan::bodies::table_of(rows, &mut table);
     let n = rows.len() / 4;
     put_table(text, &table[..n], plan::reader::script_of(file))
 }
@@ -78,15 +74,15 @@ fn needed(file: &[u8]) -> usize
 }
 
 // The whole text at the front of the lent bytes, and nothing past it touched; or how many bytes are needed, and nothing touched.
-pub fn report(file: &[u8], text: &mut [u8]) -> Reported
+pub fn report(file: &[u8], text: &mut [u8]) -> Result<usize, TooShort>
     ensures { Reports file.now text.old result text.new }
 {
     if LONGEST <= text.len() {
-        return Reported::Written(put_text(text, file));
+        return Ok(put_text(text, file));
     }
     let n = needed(file);
     if text.len() < n {
-        return Reported::TooShort(n);
+        return Err(TooShort { needed: n });
     }
-    Reported::Written(put_text(text, file))
+    Ok(put_text(text, file))
 }

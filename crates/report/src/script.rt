@@ -8,7 +8,7 @@ ghost use Rattle.report.specs.Inside.{Totals, Balanced};
 
 use super::totals::{count, put_totals};
 use machine::Machine;
-use plan::{Recorded, Tick};
+use plan::Tick;
 use text::lines::put_tick;
 
 // Record i of a script that has one.
@@ -17,8 +17,8 @@ fn tick_at(script: &[u8], i: usize) -> Tick
     ensures { result ≡ tick_at script.now i }
 {
     match plan::bodies::record(script, i) {
-        Recorded::Record(tick) => tick,
-        Recorded::Missing => Tick {
+        Some(tick) => tick,
+        None => Tick {
             mask: 0,
             signal: 0,
             early: false,

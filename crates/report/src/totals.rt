@@ -1,12 +1,13 @@
 // The counts of each task, kept tick by tick: demand 3's, which are defined from the ticks taken.
-ghost use Rattle.std.specs.Prelude.{◌≡◌, ◌+◌, ◌*◌, ◌≤◌, ◌<◌, eqb};
+ghost use Rattle.std.specs.Prelude.{◌≡◌, ◌+◌, ◌*◌, ◌≤◌, ◌<◌, eqb, Ok};
 ghost use Rattle.machine.specs.Rows.{in_mask};
 ghost use Rattle.demands.specs.Jobs.{one};
 ghost use Rattle.text.specs.Put.{Put};
 ghost use Rattle.report.specs.Inside.{Counters, Added, guest_in, hypertask_in, if_output, brings_to, guest_gives_to, hypertask_gives_to};
 ghost use Rattle.report.specs.Inside.{Balance, total_line, total_lines};
 
-use machine::{Answer, Mark, Ran, Taken};
+use machine::{Mark, Ran, Taken};
+use refusals::Refusal;
 use text::lines::put_task;
 
 // 1 where the mask has bit i.
@@ -93,9 +94,9 @@ fn add_taken(
     taken: Taken,
 )
     requires { (Counters arrived.old) × (Counters guests.old) × (Counters hypertasks.old) }
-    ensures arrived_added { Added arrived.old (λ i. brings_to mask i (Answer.Taken taken)) arrived.new }
-    ensures guests_added { Added guests.old (λ i. guest_gives_to i (Answer.Taken taken)) guests.new }
-    ensures hypertasks_added { Added hypertasks.old (λ i. hypertask_gives_to i (Answer.Taken taken)) hypertasks.new }
+    ensures arrived_added { Added arrived.old (λ i. brings_to mask i (Ok taken)) arrived.new }
+    ensures guests_added { Added guests.old (λ i. guest_gives_to i (Ok taken)) guests.new }
+    ensures hypertasks_added { Added hypertasks.old (λ i. hypertask_gives_to i (Ok taken)) hypertasks.new }
 {
     let mark = taken.mark;
     let ran = taken.ran;
@@ -110,7 +111,7 @@ pub(crate) fn count(
     guests: &mut [u64],
     hypertasks: &mut [u64],
     mask: u32,
-    answer: Answer,
+    answer: Result<Taken, Refusal>,
 )
     requires { (Counters arrived.old) × (Counters guests.old) × (Counters hypertasks.old) }
     ensures arrived_added { Added arrived.old (λ i. brings_to mask i answer) arrived.new }
@@ -118,8 +119,8 @@ pub(crate) fn count(
     ensures hypertasks_added { Added hypertasks.old (λ i. hypertask_gives_to i answer) hypertasks.new }
 {
     match answer {
-        Answer::Taken(taken) => add_taken(arrived, guests, hypertasks, mask, taken),
-        Answer::Refused(_) => {}
+        Ok(taken) => add_taken(arrived, guests, hypertasks, mask, taken),
+        Err(_) => {}
     }
 }
 

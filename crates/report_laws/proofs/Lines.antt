@@ -4,10 +4,11 @@ use mathlib.Core.List.{List, [], ◌∷◌, ◌++◌}
 use Prim.Native.Nat.{ℕ, ◌+◌, ◌*◌, ◌≤◌}
 use native.Mathlib.Omega.{arith}
 use lib.ListN.{length, length-append}
+use Rattle.std.specs.Prelude.{Ok, Err}
 use Rattle.refusals.specs.declared.Refusal.{Refusal}
 use Rattle.refusals.specs.Refusals.{number_of, place_of}
 use Rattle.machine.specs.declared.Ran.{Ran}
-use Rattle.machine.specs.declared.Answer.{Answer}
+use Rattle.machine.specs.Answers.{Answer}
 use Rattle.text.specs.Put.{digits_of, spaced, last_place}
 use Rattle.text.specs.Lines.{word_line, accept_word, accept_line, row_line, who_of, mark_and_ignored, refuse_word, refuse_line, answer_text, tick_line}
 use Rattle.text.specs.Lines.{task_word, task_line}
@@ -24,8 +25,8 @@ CountedRan (Ran.Guest task) = task ≤ last_place
 CountedRan (Ran.Hypertask task) = task ≤ last_place
 
 abbrev pub CountedAnswer : Answer → Type 0
-CountedAnswer (Answer.Taken taken) = CountedRan taken.ran
-CountedAnswer (Answer.Refused refusal) = place_of refusal ≤ last_place
+CountedAnswer (Ok taken) = CountedRan taken.ran
+CountedAnswer (Err refusal) = place_of refusal ≤ last_place
 
 -- one piece after the other
 pub both_short : (a b : List ℕ) {x y : ℕ} → length a ≤ x → length b ≤ y → length (a ++ b) ≤ x + y
@@ -79,9 +80,9 @@ who_short (Ran.Guest task) h = omega (arith, digits_short task h)
 who_short (Ran.Hypertask task) h = omega (arith, digits_short task h)
 
 answer_short : (answer : Answer) → CountedAnswer answer → length (answer_text answer) ≤ 49
-answer_short (Answer.Taken taken) h =
+answer_short (Ok taken) h =
     omega (arith, length-append (who_of taken.ran) (mark_and_ignored taken.mark taken.ignored), who_short taken.ran h)
-answer_short (Answer.Refused refusal) h = refuse_short refusal h
+answer_short (Err refusal) h = refuse_short refusal h
 
 pub tick_short : (clock : ℕ) (answer : Answer) → clock ≤ last_place → CountedAnswer answer → length (tick_line clock answer) ≤ 70
 tick_short clock answer h k = simp length-append (omega (arith, digits_short clock h, answer_short answer k))

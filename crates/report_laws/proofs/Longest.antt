@@ -3,7 +3,7 @@
 use mathlib.Core.Path.{◌≡◌, refl, ap, ◌∙◌}
 use mathlib.Core.Bool.{true}
 use mathlib.Core.List.{List, [], ◌∷◌, ◌++◌}
-use Rattle.std.specs.Option.{Option, None, Some}
+use Rattle.std.specs.Prelude.{Option, None, Some, Ok, Err}
 use Prim.Native.Nat.{ℕ, zero, suc, ◌+◌, ◌*◌, ◌/◌, ◌≤◌, ◌<◌}
 use native.Mathlib.Nat.{le_trans}
 use native.Mathlib.Omega.{arith}
@@ -14,8 +14,7 @@ use Rattle.equations.specs.Table.{rows, T, D, C, K}
 use Rattle.equations.specs.Hypertask.{E}
 use Rattle.equations.specs.Analysis.{three_of}
 use Rattle.equations.specs.Solutions.{Schedulable}
-use Rattle.equations.specs.declared.Answer.{Answer}
-use Rattle.equations.specs.declared.Answer.TheVariants.{Accepted, Refused}
+use Rattle.equations.specs.Answers.{Answer}
 use Rattle.equations.proofs.Bounds.{T≤, D≤, C≤, K≤}
 use Rattle.equations.proofs.Exactly.{R, G}
 use Rattle.start.specs.Start.{start_answer, start_of}
@@ -28,7 +27,7 @@ use Rattle.demands.specs.Jobs.{brought, guest_gives, hypertask_gives, is_open, j
 use Rattle.demands.proofs.Accepted.{schedulable}
 use Rattle.text.specs.Put.{last_place}
 use Rattle.text.specs.Lines.{accept_line, row_line, task_line}
-use Rattle.report.specs.declared.Reported.TheVariants.{Written, TooShort}
+use Rattle.report.specs.Answers.{too_short}
 use Rattle.report.specs.Report.{row_lines, ticks_of, task_lines, tick_lines, script_text, answer_by, table_text, plan_by, text_of, fits, Reports}
 use Rattle.report.proofs.Counts.{number_low}
 use Rattle.report.proofs.Ticks.{taken_few}
@@ -60,7 +59,7 @@ module _ (l : List TakenTick) (few : length l ≤ 65536) where
 
 -- ## An accepted table
 
-module _ (s : List ℕ) (n : ℕ) (accepted : start_answer s ≡ Accepted n) where
+module _ (s : List ℕ) (n : ℕ) (accepted : start_answer s ≡ Ok n) where
   tasks : n ≡ rows s
   tasks = (schedulable s n accepted).0
 
@@ -109,8 +108,8 @@ module _ (s : List ℕ) (n : ℕ) (accepted : start_answer s ≡ Accepted n) whe
       let totals = task_lines_short l (omega (arith, taken_few m script (length script / 8))) n 0 (omega (arith, few)) in
       le_trans (both_short (tick_lines (run m []) (ticks_of script)) (task_lines l 0 n) ticks totals) (omega arith)
 
-accepted_short : (s script : List ℕ) (n : ℕ) → start_answer s ≡ Accepted n → length script ≤ 65536
-    → length (answer_by s script (Accepted n)) ≤ 655360
+accepted_short : (s script : List ℕ) (n : ℕ) → start_answer s ≡ Ok n → length script ≤ 65536
+    → length (answer_by s script (Ok n)) ≤ 655360
 accepted_short s script n a h =
     let tasks = few s n a in
     let head = both_short (accept_line n) (row_lines s 0 n) (accept_short n (omega arith)) (row_lines_short s n a n 0 (omega arith)) in
@@ -123,8 +122,8 @@ unfolding table_text
 table_short s script h k = go (start_answer s) refl
   where
     go : (a : Answer) → start_answer s ≡ a → length (answer_by s script a) ≤ 655360
-    go (Refused refusal) e = omega (arith, refuse_short refusal (omega (arith, start_place s refusal e)))
-    go (Accepted n) e = accepted_short s script n e k
+    go (Err refusal) e = omega (arith, refuse_short refusal (omega (arith, start_place s refusal e)))
+    go (Ok n) e = accepted_short s script n e k
 
 pub no_text_longer : (file : List ℕ) → length file ≤ last_place → length (text_of file) ≤ 655360
 unfolding text_of
@@ -141,6 +140,6 @@ pub never_too_short : (file lent after : List ℕ) (n : ℕ) → length file ≤
     → Reports file lent (TooShort n) after → ⊥
 never_too_short file lent after n h k r =
     let e : fits (text_of file) lent ≡ true = le-leb (length (text_of file)) (length lent) (omega (arith, no_text_longer file h)) in
-    let a : TooShort n ≡ Written (length (text_of file)) = rw e at r.answers in
+    let a : TooShort n ≡ Ok (length (text_of file)) = rw e at r.answers in
     let z : ◌≡◌ {A = ℕ} 0 1 = cc in
     omega arith

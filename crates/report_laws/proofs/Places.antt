@@ -3,7 +3,7 @@ use mathlib.Core.Path.{◌≡◌, refl}
 use mathlib.Core.Bool.{Bool, true, false}
 use mathlib.Core.List.{List}
 use mathlib.Core.Logic.{⊎_elim}
-use Rattle.std.specs.Option.{Option, None, Some}
+use Rattle.std.specs.Prelude.{Option, None, Some, Ok, Err}
 use Prim.Native.Nat.{ℕ, ◌+◌, ◌/◌, ◌≤◌, ◌<◌}
 use native.Mathlib.Omega.{arith}
 use lib.ListN.{length}
@@ -14,9 +14,7 @@ use Rattle.equations.specs.Table.{rows}
 use Rattle.equations.specs.Hypertask.{response}
 use Rattle.equations.specs.Guest.{guest}
 use Rattle.equations.specs.Analysis.{bad_field, bad_deadline, table_check, hypertask_check, and_then, solved}
-use Rattle.equations.specs.declared.Checked.{Checked}
-use Rattle.equations.specs.declared.Checked.TheVariants.{Passed, Stopped}
-use Rattle.equations.specs.declared.Answer.TheVariants.{Refused}
+use Rattle.equations.specs.Answers.{Checked}
 use Rattle.equations.proofs.Refused.{NoActive, LateJob, FirstFailing, response_fails, refused_from_5}
 use Rattle.equations.proofs.Checks.{table_stopped}
 use Rattle.equations.proofs.Windows.{task_of_row}
@@ -69,22 +67,22 @@ module _ (f : List ℕ) where
 -- ## A refused table
 
 module _ (s : List ℕ) where
-  check_place : (r : Refusal) → table_check s ≡ Stopped r → place_of r ≤ length s
+  check_place : (r : Refusal) → table_check s ≡ Err r → place_of r ≤ length s
   check_place = table_stopped s (λ (r : Refusal). place_of r ≤ length s) (omega arith)
       (λ k e. omega (arith, (where_some (bad_field s) (length s) 0 k e).below))
       (λ j e. omega (arith, (where_some (bad_deadline s) (rows s) 0 j e).below))
 
-  pub start_place : (r : Refusal) → start_answer s ≡ Refused r → place_of r ≤ length s
+  pub start_place : (r : Refusal) → start_answer s ≡ Err r → place_of r ≤ length s
   unfolding start_answer
   start_place r e = go (table_check s) refl e
     where
-      go : (c : Checked) → table_check s ≡ c → and_then c (solved s) ≡ Refused r → place_of r ≤ length s
-      go (Stopped x) p q = let z : x ≡ r = cc in rw (← z) (check_place x p)
-      go Passed p q = ⊎_elim
+      go : (c : Checked) → table_check s ≡ c → and_then c (solved s) ≡ Err r → place_of r ≤ length s
+      go (Err x) p q = let z : x ≡ r = cc in rw (← z) (check_place x p)
+      go (Ok tt) p q = ⊎_elim
           (λ (w : FirstFailing (response s) 0 (rows s) r). ⊎_elim
           (λ (x : (r ≡ Refusal.NoActivePeriod (w.row + 1)) × NoActive s w.row). rw x.0 (omega (arith, w.below)))
           (λ (x : (r ≡ Refusal.StartTooLate (w.row + 1)) × LateJob s w.row). rw x.0 (omega (arith, w.below)))
           (response_fails s w.row r w.fails))
-          (λ (w : (hypertask_check s ≡ Passed) × FirstFailing (guest s) 0 (rows s) r).
+          (λ (w : (hypertask_check s ≡ (Ok tt)) × FirstFailing (guest s) 0 (rows s) r).
           omega (arith, task_of_row s w.1.row r w.1.fails, w.1.below))
           (refused_from_5 s r q)

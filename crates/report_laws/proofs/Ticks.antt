@@ -8,12 +8,13 @@ use native.Mathlib.Nat.{le_trans}
 use native.Mathlib.Omega.{arith}
 use lib.Dec.{eqb}
 use lib.ListN.{length, get_or}
+use Rattle.std.specs.Prelude.{Ok, Err}
 use Rattle.refusals.specs.declared.Refusal.{Refusal}
 use Rattle.refusals.specs.Refusals.{place_of}
 use Rattle.machine.specs.declared.Stage.{Stage}
 use Rattle.machine.specs.declared.Row.{Row}
 use Rattle.machine.specs.declared.Machine.{Machine}
-use Rattle.machine.specs.declared.Answer.{Answer}
+use Rattle.machine.specs.Answers.{Answer}
 use Rattle.machine.specs.Rows.{no_row, Found, at, none, first}
 use Rattle.machine.specs.WellFormed.{well_formed}
 use Rattle.machine.specs.TickRule.{past_last, too_soon, while_hyper, Verdict, refused, accepted, refuse_at, verdict, chosen, guest_ran, hypertask_ran, ran_from}
@@ -88,8 +89,8 @@ unfolding after
 after_clock r t = go (answer_to r t) refl
   where
     go : (x : Answer) → answer_to r t ≡ x → (step_of r.machine t.mask t.signal t.early).machine.clock ≤ r.machine.clock + 1
-    go (Answer.Taken said) e = omega (arith, taken_clock r.machine t.mask t.signal t.early said e)
-    go (Answer.Refused refusal) e = omega (arith, refused_clock r.machine t.mask t.signal t.early refusal e)
+    go (Ok said) e = omega (arith, taken_clock r.machine t.mask t.signal t.early said e)
+    go (Err refusal) e = omega (arith, refused_clock r.machine t.mask t.signal t.early refusal e)
 
 after_length : (r : Run) (t : Tick) → length (after r t).machine.rows ≡ length r.machine.rows
 unfolding after

@@ -5,15 +5,14 @@ use mathlib.Core.List.{List, [], ◌∷◌, ◌++◌}
 use Prim.Native.Nat.{ℕ, zero, suc, ◌+◌, ◌-◌, ◌*◌, ◌≤◌, ◌<◌}
 use native.Mathlib.Omega.{arith}
 use lib.ListN.{length, get_or, set, drop, replicate, length-append, length-replicate, length-drop}
+use Rattle.std.specs.Prelude.{Ok, Err}
 use Rattle.least.specs.Lists.{list_of}
 use Rattle.least.proofs.Lists.{length_list, fill_more, length_flat, flat_at}
 use Rattle.refusals.specs.declared.Refusal.{Refusal}
 use Rattle.equations.specs.Table.{rows}
 use Rattle.equations.specs.Hypertask.{E}
 use Rattle.equations.specs.Analysis.{table_check, and_then, solved, analysis, three_of, results, results_after}
-use Rattle.equations.specs.declared.Checked.{Checked}
-use Rattle.equations.specs.declared.Checked.TheVariants.{Passed, Stopped}
-use Rattle.equations.specs.declared.Answer.TheVariants.{Accepted, Refused}
+use Rattle.equations.specs.Answers.{Checked}
 use Rattle.equations.proofs.Checks.{refused_1_to_3, entered, results_fit}
 use Rattle.equations.proofs.Exactly.{table_sound, passes}
 use Rattle.machine.specs.Rows.{no_row, with_stage, map_from}
@@ -71,23 +70,23 @@ unfolding start_answer
 same_answer s lent h = by (table_check s) refl
   where
     by : (c : Checked) → table_check s ≡ c → analysis s (length lent) ≡ and_then c (solved s)
-    by Passed e = entered s (length lent) e (results_fit s (length lent) (omega (arith, (table_sound s e).few)))
-    by (Stopped r) e = refused_1_to_3 s (length lent) r e
+    by (Ok tt) e = entered s (length lent) e (results_fit s (length lent) (omega (arith, (table_sound s e).few)))
+    by (Err r) e = refused_1_to_3 s (length lent) r e
 
-pub started_refused : (s : List ℕ) (r : Refusal) → start_answer s ≡ Refused r
-    → start_of s ≡ record { machine = record { rows = replicate 32 no_row; count = 0; clock = 0 }; answer = Refused r }
+pub started_refused : (s : List ℕ) (r : Refusal) → start_answer s ≡ Err r
+    → start_of s ≡ record { machine = record { rows = replicate 32 no_row; count = 0; clock = 0 }; answer = Err r }
 unfolding start_of fresh_at fresh_rows map_from
 started_refused s r e = rw e
 
-pub started_accepted : (s : List ℕ) (n : ℕ) → start_answer s ≡ Accepted n
-    → start_of s ≡ record { machine = record { rows = fresh_places s n; count = n; clock = 0 }; answer = Accepted n }
+pub started_accepted : (s : List ℕ) (n : ℕ) → start_answer s ≡ Ok n
+    → start_of s ≡ record { machine = record { rows = fresh_places s n; count = n; clock = 0 }; answer = Ok n }
 unfolding start_of fresh_at
 started_accepted s n e = rw e (rw (fresh_is s n, length_list (row_of s) n))
 
-pub analysed_tasks : (s : List ℕ) (lent n : ℕ) → analysis s lent ≡ Accepted n → n ≤ rows s
+pub analysed_tasks : (s : List ℕ) (lent n : ℕ) → analysis s lent ≡ Ok n → n ≤ rows s
 analysed_tasks s lent n e = omega (arith, (passes s lent n e).tasks)
 
-pub accepted_analysed : (s lent : List ℕ) (n : ℕ) → length lent ≡ 96 → analysis s (length lent) ≡ Accepted n → Analysed s (results_after s lent)
+pub accepted_analysed : (s lent : List ℕ) (n : ℕ) → length lent ≡ 96 → analysis s (length lent) ≡ Ok n → Analysed s (results_after s lent)
 unfolding results_after
 accepted_analysed s lent n h e =
     let p = passes s (length lent) n e in

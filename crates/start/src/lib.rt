@@ -7,14 +7,14 @@ ghost use Rattle.machine.specs.Rows.{no_row};
 ghost use Rattle.start.specs.Start.{row_of, rows_of, start_of};
 ghost use Rattle.start.specs.Inside.{Analysed, fresh_places};
 
-use equations::Answer;
 use machine::{Machine, Row, Stage};
+use refusals::Refusal;
 
 // The machine, and the number of its tasks or the refusal.
 #[derive(Clone, Copy)]
 pub struct Started {
     pub machine: Machine,
-    pub answer: Answer,
+    pub answer: Result<usize, Refusal>,
 }
 
 // A place past the last row: all zero and Never.
@@ -64,21 +64,21 @@ pub fn start(table: &[u32]) -> Started
 {
     let mut results = [0u32; 96];
     match analysis::analyse(table, &mut results) {
-        Answer::Refused(r) => Started {
+        Err(r) => Started {
             machine: Machine {
                 rows: [no_row(); 32],
                 count: 0,
                 clock: 0,
             },
-            answer: Answer::Refused(r),
+            answer: Err(r),
         },
-        Answer::Accepted(n) => Started {
+        Ok(n) => Started {
             machine: Machine {
                 rows: rows_of(table, &results, n),
                 count: n,
                 clock: 0,
             },
-            answer: Answer::Accepted(n),
+            answer: Ok(n),
         },
     }
 }

@@ -1,10 +1,10 @@
 -- Worked lines, each beside the text that document 01 prints or describes at the end of "Cases". Assumes nothing.
-use Rattle.std.specs.Prelude.{ℕ, ◌≡◌, Bool, true, false, List, [], ◌∷◌}
+use Rattle.std.specs.Prelude.{ℕ, ◌≡◌, Bool, true, false, List, [], ◌∷◌, Ok, Err}
 use Prim.Native.String.{String}
 use Rattle.refusals.specs.declared.Refusal.{Refusal}
 use Rattle.machine.specs.declared.Ran.{Ran}
 use Rattle.machine.specs.declared.Mark.{Mark}
-use Rattle.machine.specs.declared.Answer.{Answer}
+use Rattle.machine.specs.Answers.{Answer}
 use Rattle.text.specs.Ascii.{ascii}
 use Rattle.text.specs.Lines.{accept_line, row_line, refuse_line, tick_line, task_line}
 
@@ -21,7 +21,7 @@ Right [] = Unit {0}
 Right (c ∷ cs) = (c.line ≡ ascii c.reads) × Right cs
 
 abbrev pub took : Ran → Mark → Bool → Answer
-took ran mark ignored = Answer.Taken (record { ran = ran; mark = mark; ignored = ignored })
+took ran mark ignored = Ok (record { ran = ran; mark = mark; ignored = ignored })
 
 abbrev pub cases : List Case
 cases =
@@ -37,7 +37,7 @@ cases =
     ∷ case (tick_line 6 (took (Ran.Hypertask 1) Mark.Nothing true)) "6 H1 - 1\n"
     ∷ case (tick_line 1099511627775 (took (Ran.Hypertask 20) Mark.Output false)) "1099511627775 H20 O 0\n"
     -- a refused tick, and a refused plan or table
-    ∷ case (tick_line 9 (Answer.Refused (Refusal.ArrivalTooSoon 1))) "9 REFUSE 11 1\n"
+    ∷ case (tick_line 9 (Err (Refusal.ArrivalTooSoon 1))) "9 REFUSE 11 1\n"
     ∷ case (refuse_line (Refusal.NoGuestWindow 1)) "REFUSE 7 1\n"
     ∷ case (refuse_line (Refusal.NoHypertaskWindow 2)) "REFUSE 19 2\n"
     ∷ case (refuse_line (Refusal.FileLength 65537)) "REFUSE 13 65537\n"

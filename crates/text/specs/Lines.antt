@@ -1,11 +1,11 @@
 -- The lines of a run as bytes: the end of "Cases" in document 01, in its order. Each ends with a newline, byte 10; a space is byte 32.
 -- Assumes nothing.
-use Rattle.std.specs.Prelude.{ℕ, Bool, true, false, List, [], ◌∷◌, ◌++◌}
+use Rattle.std.specs.Prelude.{ℕ, Bool, true, false, List, [], ◌∷◌, ◌++◌, Ok, Err}
 use Rattle.refusals.specs.declared.Refusal.{Refusal}
 use Rattle.refusals.specs.Refusals.{number_of, place_of}
 use Rattle.machine.specs.declared.Ran.{Ran}
 use Rattle.machine.specs.declared.Mark.{Mark}
-use Rattle.machine.specs.declared.Answer.{Answer}
+use Rattle.machine.specs.Answers.{Answer}
 use Rattle.text.specs.Put.{digits_of, spaced}
 
 -- a word, numbers each after a space, the newline
@@ -52,8 +52,8 @@ refuse_line refusal = word_line refuse_word (number_of refusal ∷ place_of refu
 
 -- what a tick's line says after the clock: who ran, mark, ignored; or the refusal
 abbrev pub answer_text : Answer → List ℕ
-answer_text (Answer.Taken taken) = who_of taken.ran ++ mark_and_ignored taken.mark taken.ignored
-answer_text (Answer.Refused refusal) = refuse_line refusal
+answer_text (Ok taken) = who_of taken.ran ++ mark_and_ignored taken.mark taken.ignored
+answer_text (Err refusal) = refuse_line refusal
 
 -- "clock, who ran, mark, 1 if a signal was ignored"; "a refused tick prints clock REFUSE number place"
 abbrev pub tick_line : ℕ → Answer → List ℕ

@@ -1,10 +1,10 @@
 // The lines of a run: document 01, the end of "Cases".
-ghost use Rattle.std.specs.Prelude.{◌≡◌, [], ◌∷◌, ◌++◌, ◌+◌, ◌≤◌};
+ghost use Rattle.std.specs.Prelude.{◌≡◌, [], ◌∷◌, ◌++◌, ◌+◌, ◌≤◌, Ok};
 ghost use Rattle.text.specs.Put.{Put, digits_of};
 ghost use Rattle.text.specs.Lines.{accept_line, row_line, who_of, mark_of, ignored_of, mark_and_ignored, refuse_line, answer_text, tick_line, task_line};
 
 use super::{put_byte, put_bytes, put_number, put_spaced};
-use machine::{Answer, Mark, Ran, Taken};
+use machine::{Mark, Ran, Taken};
 use refusals::Refusal;
 
 pub fn put_accept(text: &mut [u8], at: usize, tasks: u64) -> usize
@@ -81,7 +81,7 @@ fn put_mark(text: &mut [u8], at: usize, mark: Mark, ignored: bool) -> usize
 }
 
 fn put_taken(text: &mut [u8], at: usize, taken: Taken) -> usize
-    ensures puts { Put text.old at (answer_text (Answer.Taken taken)) text.new result }
+    ensures puts { Put text.old at (answer_text (Ok taken)) text.new result }
     ensures short { result ≤ at + 49 }
 {
     let ran = taken.ran;
@@ -90,18 +90,18 @@ fn put_taken(text: &mut [u8], at: usize, taken: Taken) -> usize
     put_mark(text, a, mark, taken.ignored)
 }
 
-fn put_answer(text: &mut [u8], at: usize, answer: Answer) -> usize
+fn put_answer(text: &mut [u8], at: usize, answer: Result<Taken, Refusal>) -> usize
     ensures puts { Put text.old at (answer_text answer) text.new result }
     ensures short { result ≤ at + 49 }
 {
     match answer {
-        Answer::Taken(taken) => put_taken(text, at, taken),
-        Answer::Refused(refusal) => put_refusal(text, at, refusal),
+        Ok(taken) => put_taken(text, at, taken),
+        Err(refusal) => put_refusal(text, at, refusal),
     }
 }
 
 // A tick's line: the clock at which it was asked for, and its answer.
-pub fn put_tick(text: &mut [u8], at: usize, clock: u64, answer: Answer) -> usize
+pub fn put_tick(text: &mut [u8], at: usize, clock: u64, answer: Result<Taken, Refusal>) -> usize
     ensures puts { Put text.old at (tick_line clock answer) text.new result }
     ensures short { result ≤ at + 70 }
 {

@@ -1,18 +1,18 @@
 use mathlib.Core.Path.{◌≡◌, sym, ◌∙◌}
 use native.Mathlib.Omega.{arith}
 use lib.ListN.{length}
+use Rattle.std.specs.Prelude.{Ok}
 use Rattle.equations.specs.Analysis.{table_check, analysis}
-use Rattle.equations.specs.declared.Checked.TheVariants.{Passed}
 use Rattle.equations.proofs.Checks.{results_short, results_fit, refused_1_to_3, refused_4, entered, results_by_lem}
 use Rattle.analysis.proofs.analyse.Goals.{In_default}
 use Rattle.analysis.proofs.analyse.Goals as goal
 
-table_passes : (c : In_default) → table_check c.args.table.now ≡ Passed
+table_passes : (c : In_default) → table_check c.args.table.now ≡ (Ok tt)
 table_passes c = sym c.check.ensures.value ∙ c.in_default.is
 
-pub returns-in-Stopped : goal.returns-in-Stopped
-returns-in-Stopped c = let s = c.args.table.now in
-    let e = refused_1_to_3 s (length c.args.results.now) _ (sym c.check.ensures.value ∙ c.in-Stopped.is) in
+pub returns-in-Err : goal.returns-in-Err
+returns-in-Err c = let s = c.args.table.now in
+    let e = refused_1_to_3 s (length c.args.results.now) _ (sym c.check.ensures.value ∙ c.in-Err.is) in
     record { answers = sym e; leaves = results_by_lem s c.args.results.now _ e }
 
 pub returns-then-results-needed : goal.returns-then-results-needed

@@ -2,9 +2,9 @@ use mathlib.Core.Path.{◌≡◌, refl, sym, ap, ◌∙◌}
 use mathlib.Core.List.{List, ◌++◌}
 use Prim.Native.Nat.{ℕ, ◌*◌}
 use lib.ListN.{drop}
+use Rattle.std.specs.Prelude.{Ok}
 use Rattle.equations.specs.Table.{rows}
 use Rattle.equations.specs.Analysis.{hypertask_check, guest_check}
-use Rattle.equations.specs.declared.Checked.TheVariants.{Passed}
 use Rattle.equations.proofs.Checks.{refused_5_or_6, refused_7_or_19, accepted}
 use Rattle.analysis.specs.Loops.{Filled, GuestsFilled}
 use Rattle.analysis.proofs.Loops.{results_are}
@@ -16,7 +16,7 @@ filled : (c : In_default) → Filled c.args.table.now
     c.hypertasks.new.rs c.hypertasks.new.es (rows c.args.table.now)
 filled c = c.hypertasks.ensures.filled c.in_default.is
 
-hypertasks_pass : (c : In_default) → hypertask_check c.args.table.now ≡ Passed
+hypertasks_pass : (c : In_default) → hypertask_check c.args.table.now ≡ (Ok tt)
 hypertasks_pass c = sym c.hypertasks.ensures.value ∙ c.in_default.is
 
 -- and G
@@ -27,20 +27,20 @@ guests_filled : (c : In_default-guests)
 guests_filled c = c.guests.ensures.guests_filled c.in_default-guests.is
 
 guests_pass : (c : In_default-guests)
-    → guest_check c.args.table.now ≡ Passed
+    → guest_check c.args.table.now ≡ (Ok tt)
 guests_pass c = sym c.guests.ensures.value ∙ c.in_default-guests.is
 
-pub returns-in-Stopped : goal.returns-in-Stopped
-returns-in-Stopped c = let s = c.args.table.now in
+pub returns-in-Err : goal.returns-in-Err
+returns-in-Err c = let s = c.args.table.now in
     record {
-      value = sym (refused_5_or_6 s _ (sym c.hypertasks.ensures.value ∙ c.in-Stopped.is));
+      value = sym (refused_5_or_6 s _ (sym c.hypertasks.ensures.value ∙ c.in-Err.is));
       lent_after = refl;
     }
 
-pub returns-in-Stopped-guests : goal.returns-in-Stopped-guests
-returns-in-Stopped-guests c = let s = c.args.table.now in record {
-  value = sym (refused_7_or_19 s _ (hypertasks_pass (goal.at.returns-in-Stopped-guests c).In_default) (sym c.guests.ensures.value
-      ∙ c.in-Stopped-guests.is));
+pub returns-in-Err-guests : goal.returns-in-Err-guests
+returns-in-Err-guests c = let s = c.args.table.now in record {
+  value = sym (refused_7_or_19 s _ (hypertasks_pass (goal.at.returns-in-Err-guests c).In_default) (sym c.guests.ensures.value
+      ∙ c.in-Err-guests.is));
   lent_after = refl;
 }
 

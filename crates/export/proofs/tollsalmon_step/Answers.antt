@@ -27,22 +27,22 @@ put-requires c =
     let d = c.read-read in
     (can_read s (read_says s d.result _ d.ensures (not-false _ c.if-not-read.false))).long
 
-pub returns-in-Taken : goal.returns-in-Taken
-returns-in-Taken c =
+pub returns-in-Ok : goal.returns-in-Ok
+returns-in-Ok c =
     let a = c.args in
     let s = a.state.now in
     let d = c.read-read in
     let h = read_says s d.result _ d.ensures (not-false _ c.if-not-read.false) in
     step_taken s a.mask a.signal a.early a.answer.now d.result.machine c.step-s.result _ _ _
     (omega arith) (omega arith) h (read_machine s d.result d.ensures h)
-    c.step-s.ensures c.in-Taken.is c.put.ensures c.put_answer.ensures
+    c.step-s.ensures c.in-Ok.is c.put.ensures c.put_answer.ensures
 
-pub returns-in-Refused : goal.returns-in-Refused
-returns-in-Refused c =
+pub returns-in-Err : goal.returns-in-Err
+returns-in-Err c =
     let a = c.args in
     let s = a.state.now in
     let d = c.read-read in
     let h = read_says s d.result _ d.ensures (not-false _ c.if-not-read.false) in
     step_refused s a.mask a.signal a.early a.answer.now d.result.machine c.step-s.result _ _ _
     (omega arith) (omega arith) h (read_machine s d.result d.ensures h)
-    c.step-s.ensures c.in-Refused.is c.number.ensures c.place.ensures
+    c.step-s.ensures c.in-Err.is c.number.ensures c.place.ensures

@@ -3,8 +3,8 @@ use native.Mathlib.Omega.{arith}
 use Rattle.pace.specs.Pace.{said_sum}
 use Rattle.pace.proofs.said_sum.Goals as goal
 
-pub returns-in-Taken : goal.returns-in-Taken
-returns-in-Taken c = (c.taken_sum.ensures.0 ∙ ap said_sum (sym c.in-Taken.is), c.taken_sum.ensures.1)
+pub returns-in-Ok : goal.returns-in-Ok
+returns-in-Ok c = (c.taken_sum.ensures.0 ∙ ap said_sum (sym c.in-Ok.is), c.taken_sum.ensures.1)
 
-pub returns-in-Refused : goal.returns-in-Refused
-returns-in-Refused c = (rw c.in-Refused.is (rw c.number.ensures), omega arith)
+pub returns-in-Err : goal.returns-in-Err
+returns-in-Err c = (rw c.in-Err.is (rw c.number.ensures), omega arith)

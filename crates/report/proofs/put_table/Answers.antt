@@ -8,22 +8,22 @@ use Rattle.report.proofs.put_table.Goals as goal
 pub put_accepted-requires : goal.put_accepted-requires
 put_accepted-requires c =
     let st = c.start-started in
-    (sym (started_answer _ _ st.ensures) ∙ c.in-Accepted.is, ap (λ (x : Started). x.machine) st.ensures, c.requires)
+    (sym (started_answer _ _ st.ensures) ∙ c.in-Ok.is, ap (λ (x : Started). x.machine) st.ensures, c.requires)
 
-pub returns-in-Accepted : goal.returns-in-Accepted
+pub returns-in-Ok : goal.returns-in-Ok
 unfolding table_text
-returns-in-Accepted c =
+returns-in-Ok c =
     let p = c.put_accepted.ensures in
     record {
-      puts = rw (sym (started_answer _ _ c.start-started.ensures) ∙ c.in-Accepted.is) p.puts;
+      puts = rw (sym (started_answer _ _ c.start-started.ensures) ∙ c.in-Ok.is) p.puts;
       short = p.short;
     }
 
-pub returns-in-Refused : goal.returns-in-Refused
+pub returns-in-Err : goal.returns-in-Err
 unfolding table_text
-returns-in-Refused c =
+returns-in-Err c =
     let p = c.put_refusal.ensures in
     record {
-      puts = rw (sym (started_answer _ _ c.start-started.ensures) ∙ c.in-Refused.is) p.puts;
+      puts = rw (sym (started_answer _ _ c.start-started.ensures) ∙ c.in-Err.is) p.puts;
       short = omega (arith, p.short);
     }

@@ -8,11 +8,11 @@ use Rattle.report.specs.Report.{text_of}
 use Rattle.report.proofs.Plans.{rows_few, taken_rows, part_short}
 use Rattle.report.proofs.put_text.Goals as goal
 
-pub returns-in-Refused : goal.returns-in-Refused
+pub returns-in-Err : goal.returns-in-Err
 unfolding text_of
-returns-in-Refused c =
+returns-in-Err c =
     let p = c.put_refusal.ensures in
-    let e = answer_some (read_refusal c.args.file.now) c.in-Refused.refusal (sym c.in-Refused.is ∙ c.check.ensures) in
+    let e = answer_some (read_refusal c.args.file.now) c.in-Err.refusal (sym c.in-Err.is ∙ c.check.ensures) in
     record {
       puts = rw e p.puts;
       short = omega (arith, p.short);

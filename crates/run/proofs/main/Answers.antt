@@ -9,7 +9,7 @@ pub slice_bounds-report-end-2 : goal.slice_bounds-report-end-2
 slice_bounds-report-end-2 c = sym (length-replicate {A = ℕ} 655360 0)
 
 pub slice_bounds-text-end : goal.slice_bounds-text-end
-slice_bounds-text-end c = (written_counts _ _ _ _ _ c.in-Written.is c.report.ensures).0
+slice_bounds-text-end c = (written_counts _ _ _ _ _ c.in-Ok.is c.report.ensures).0
 
 pub slice_bounds-write_all-end : goal.slice_bounds-write_all-end
-slice_bounds-write_all-end c = (written_counts _ _ _ _ _ c.in-Written.is c.report.ensures).1
+slice_bounds-write_all-end c = (written_counts _ _ _ _ _ c.in-Ok.is c.report.ensures).1

@@ -1,5 +1,5 @@
 use mathlib.Core.Path.{◌≡◌, sym, ◌∙◌}
-use Rattle.std.specs.Option.{None, Some}
+use Rattle.std.specs.Prelude.{None, Some}
 use native.Mathlib.Omega.{arith}
 use lib.ListN.{length}
 use Rattle.least.specs.Search.{first_where}

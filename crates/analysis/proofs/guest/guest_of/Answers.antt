@@ -1,11 +1,10 @@
 use mathlib.Core.Path.{◌≡◌, ap, sym, ◌∙◌}
-use Rattle.std.specs.Option.{Some}
+use Rattle.std.specs.Prelude.{Some, Ok}
 use Prim.Native.Nat.{◌-◌, max}
 use native.Mathlib.Omega.{arith}
 use Rattle.equations.specs.Table.{T}
 use Rattle.equations.specs.Hypertask.{E}
 use Rattle.equations.specs.Guest.{WA, WE}
-use Rattle.equations.specs.declared.Response.TheVariants.{Is}
 use Rattle.equations.proofs.Jobs.{guest_7, guest_19, guest_is}
 use Rattle.analysis.proofs.Loops.{found_some, found_none}
 use Rattle.analysis.proofs.guest.guest_of.Goals.{In-At}
@@ -34,4 +33,4 @@ returns c = let s = c.args.table.now in
     let we : WE s i ≡ Some e = found_some (WE s i) _ (sym c.in-At-window_begun_by_hypertask.is ∙ c.window_begun_by_hypertask.ensures) in
     let o : c.cell-2.result ≡ E s i = c.cell-2.ensures ∙ c.requires.1.at i c.requires.2 in
     let m : c.larger.result ≡ max c.in-At.a (e - (T s i - E s i)) = omega arith in
-    ap Is m ∙ sym (guest_is s i _ _ (guest_begins (goal.at.returns c).In-At) we)
+    ap Ok m ∙ sym (guest_is s i _ _ (guest_begins (goal.at.returns c).In-At) we)

@@ -1,5 +1,5 @@
 use mathlib.Core.Path.{◌≡◌, ap, sym, ◌∙◌}
-use Rattle.std.specs.Option.{Some}
+use Rattle.std.specs.Prelude.{Some}
 use Prim.Native.Nat.{ℕ, suc, ◌+◌, ◌-◌, ◌*◌}
 use native.Mathlib.Omega.{arith}
 use Rattle.equations.specs.Table.{T, K}

@@ -1,5 +1,5 @@
 use mathlib.Core.Path.{◌≡◌, ap, sym, ◌∙◌}
-use Rattle.std.specs.Option.{Some}
+use Rattle.std.specs.Prelude.{Some}
 use native.Mathlib.Omega.{arith}
 use Rattle.least.specs.Sums.{up}
 use Rattle.least.proofs.Sums.{up_mul≤}

@@ -1,5 +1,5 @@
 use mathlib.Core.Path.{◌≡◌}
-use Rattle.std.specs.Option.{Some}
+use Rattle.std.specs.Prelude.{Some}
 use Prim.Native.Nat.{◌-◌, ◌≤◌}
 use Rattle.equations.specs.Hypertask.{worst}
 use Rattle.analysis.proofs.hypertask.worst_of.Given as goal

@@ -1,9 +1,9 @@
 use mathlib.Core.Path.{◌≡◌, sym, ◌∙◌}
 use native.Mathlib.Omega.{arith}
+use Rattle.std.specs.Prelude.{Ok}
 use Rattle.equations.specs.Table.{rows}
 use Rattle.equations.specs.Guest.{guest}
 use Rattle.equations.specs.Analysis.{guest_check}
-use Rattle.equations.specs.declared.Response.TheVariants.{Is}
 use Rattle.equations.proofs.Bounds.{T≤, D≤, E≤D}
 use Rattle.equations.proofs.Jobs.{guest≤}
 use Rattle.equations.proofs.Checks.{stopped_passed, rows_stop, rows_next, rows_end}
@@ -13,14 +13,14 @@ use Rattle.analysis.proofs.results.guests.Goals as goal
 
 -- the response that was found
 found : (c : In-Is) → guest c.args.table.now
-    c.loop-i.i ≡ Is c.in-Is.g
-found c = sym c.guest_of.ensures ∙ c.in-Is.is
+    c.loop-i.i ≡ Ok c.in-Ok.g
+found c = sym c.guest_of.ensures ∙ c.in-Ok.is
 
-pub returns-in-Fails : goal.returns-in-Fails
+pub returns-in-Err : goal.returns-in-Err
 unfolding guest_check
-returns-in-Fails c = let s = c.args.table.now in
+returns-in-Err c = let s = c.args.table.now in
     let l = c.loop-i in
-    let f = sym c.guest_of.ensures ∙ c.in-Fails.is in
+    let f = sym c.guest_of.ensures ∙ c.in-Err.is in
     record {
       value = sym (rows_stop (guest s) _ l.i _ l.invariant.0 (omega arith) f);
       guests_filled = λ x. absurd (stopped_passed _ x);

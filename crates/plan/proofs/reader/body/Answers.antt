@@ -1,5 +1,5 @@
 -- The entry that was found gives the part; where none was found the body is empty. Assumes nothing.
-use Rattle.std.specs.Option.{None, Some}
+use Rattle.std.specs.Prelude.{None, Some}
 use mathlib.Core.Path.{◌≡◌, sym, ap, ◌∙◌}
 use Prim.Native.Nat.{ℕ, ◌+◌, ◌-◌}
 use native.Mathlib.Omega.{arith}

@@ -1,6 +1,6 @@
 -- What each question answered leads to its refusal or on to the next, in the order of the definition. Assumes nothing.
 use mathlib.Core.List.{List}
-use Rattle.std.specs.Option.{Option, None, Some}
+use Rattle.std.specs.Prelude.{Option, None, Some}
 use mathlib.Core.Path.{◌≡◌, sym, ap, ◌∙◌}
 use Prim.Native.Nat.{ℕ}
 use native.Mathlib.Omega.{arith}

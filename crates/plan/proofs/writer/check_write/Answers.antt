@@ -1,5 +1,5 @@
 -- Each check in the order of the definition; the total that is counted is the length of the file. Assumes nothing.
-use Rattle.std.specs.Option.{None}
+use Rattle.std.specs.Prelude.{None}
 use mathlib.Core.Bool.{false}
 use mathlib.Core.Path.{◌≡◌, sym, ap, ◌∙◌}
 use native.Mathlib.Omega.{arith}

@@ -1,5 +1,5 @@
 -- Refused, nothing was put; accepted, the whole file was, at the front. Assumes nothing.
-use Rattle.std.specs.Option.{None}
+use Rattle.std.specs.Prelude.{None}
 use mathlib.Core.Path.{◌≡◌, sym, ◌∙◌}
 use native.Mathlib.Omega.{arith}
 use lib.ListN.{length}
