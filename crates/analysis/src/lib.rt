@@ -21,9 +21,13 @@ fn solve(table: &[u32], lent: &mut [u32]) -> Result<usize, Refusal>
 {
     let mut rs = [0u32; 32];
     let mut es = [0u32; 32];
-    results::hypertasks(table, &mut rs, &mut es)?;
+    if let Err(r) = results::hypertasks(table, &mut rs, &mut es) {
+        return Err(r);
+    }
     let mut gs = [0u32; 32];
-    results::guests(table, &es, &mut gs)?;
+    if let Err(r) = results::guests(table, &es, &mut gs) {
+        return Err(r);
+    }
     let n = table.len() / 4;
     results::write(lent, &rs, &es, &gs, n);
     Ok(n)
@@ -34,7 +38,9 @@ fn solve(table: &[u32], lent: &mut [u32]) -> Result<usize, Refusal>
 pub fn analyse(table: &[u32], results: &mut [u32]) -> Result<usize, Refusal>
     ensures { Analyses table.now results.old result results.new }
 {
-    checks::check(table)?;
+    if let Err(r) = checks::check(table) {
+        return Err(r);
+    }
     let needed = 3 * (table.len() / 4);
     if results.len() < needed {
         return Err(Refusal::ResultsShort(needed));

@@ -16,10 +16,16 @@ pub(crate) fn hypertasks(table: &[u32], rs: &mut [u32; 32], es: &mut [u32; 32]) 
 {
     let n = table.len() / 4;
     for i in 0..n {
-        let r = hypertask::response_of(table, i)?;
-        let d = numbers::cell(table, 4 * i + 1);
-        rs[i] = r as u32;
-        es[i] = (d - r) as u32;
+        match hypertask::response_of(table, i) {
+            Err(f) => {
+                return Err(f);
+            }
+            Ok(r) => {
+                let d = numbers::cell(table, 4 * i + 1);
+                rs[i] = r as u32;
+                es[i] = (d - r) as u32;
+            }
+        }
     }
     Ok(())
 }
@@ -32,8 +38,14 @@ pub(crate) fn guests(table: &[u32], es: &[u32], gs: &mut [u32; 32]) -> Result<()
 {
     let n = table.len() / 4;
     for i in 0..n {
-        let g = guest::guest_of(table, es, i)?;
-        gs[i] = g as u32;
+        match guest::guest_of(table, es, i) {
+            Err(f) => {
+                return Err(f);
+            }
+            Ok(g) => {
+                gs[i] = g as u32;
+            }
+        }
     }
     Ok(())
 }

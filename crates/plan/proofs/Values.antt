@@ -8,7 +8,7 @@ use borrow.Author.Tests.{lt-ltb, le-ltb, eq-eqb, ne_eqb}
 use lib.Dec.{eqb}
 use lib.ListN.{length, get_or, drop, set}
 use lib.Seq.{drop-cons, set_at, append_snoc}
-use Rattle.std.specs.Prelude.{Ok, None, Some}
+use Rattle.std.specs.Prelude.{Err, Ok, None, Some}
 use Rattle.least.specs.Lists.{list_of}
 use Rattle.least.proofs.Lists.{length_list}
 use Rattle.plan.specs.Answers.{Taken}
@@ -45,11 +45,11 @@ module _ (rows lent : List ℕ) where
   takes : (a : Taken) (after : List ℕ) → taken_of rows (length lent) ≡ a → after ≡ after_taken a rows lent → Takes rows lent a after
   takes a after e p = record { answers = sym e; leaves = p ∙ sym (ap (λ (x : Taken). after_taken x rows lent) e) }
 
-  pub not_in_fours : (length rows % 4 ≡ 0 → ⊥) → Takes rows lent (NotInFours (length rows)) lent
+  pub not_in_fours : (length rows % 4 ≡ 0 → ⊥) → Takes rows lent (Err (NotInFours (length rows))) lent
   unfolding taken_of
   not_in_fours h = takes _ lent (rw (ne_eqb _ _ h)) refl
 
-  pub too_short : length rows % 4 ≡ 0 → length lent < length rows / 4 → Takes rows lent (TooShort (length rows / 4)) lent
+  pub too_short : length rows % 4 ≡ 0 → length lent < length rows / 4 → Takes rows lent (Err (TooShort (length rows / 4))) lent
   unfolding taken_of
   too_short h g = takes _ lent (rw (eq-eqb _ _ h, lt-ltb _ _ g)) refl
 

@@ -1,6 +1,6 @@
 -- Bodies as values: document 01, "The plan file", rows of four numbers and tick records of 8 bytes.
 -- Assumes nothing.
-use Rattle.std.specs.Prelude.{◌≡◌, cond, List, [], ◌∷◌, ◌++◌, ℕ, ◌+◌, ◌*◌, ◌/◌, ◌%◌, ltb, eqb, length, get_or, drop, Ok, None, Some}
+use Rattle.std.specs.Prelude.{◌≡◌, cond, List, [], ◌∷◌, ◌++◌, ℕ, ◌+◌, ◌*◌, ◌/◌, ◌%◌, ltb, eqb, length, get_or, drop, Ok, Err, None, Some}
 use Rattle.plan.specs.declared.Tick.{Tick}
 use Rattle.plan.specs.Answers.{Recorded, Taken}
 use Rattle.plan.specs.declared.RowsError.TheVariants.{NotInFours, TooShort}
@@ -22,14 +22,13 @@ record_of s i = cond (ltb i (length s / 8)) (Some (tick_at s i)) None
 unfoldable pub taken_of : List ℕ → ℕ → Taken
 taken_of rows room =
     cond (eqb (length rows % 4) 0)
-    (cond (ltb room (length rows / 4)) (TooShort (length rows / 4)) (Ok (length rows / 4)))
-    (NotInFours (length rows))
+    (cond (ltb room (length rows / 4)) (Err (TooShort (length rows / 4))) (Ok (length rows / 4)))
+    (Err (NotInFours (length rows)))
 
 -- the lent numbers afterwards
 abbrev pub after_taken : Taken → List ℕ → List ℕ → List ℕ
 after_taken (Ok n) rows lent = table_of rows ++ drop n lent
-after_taken (NotInFours n) rows lent = lent
-after_taken (TooShort n) rows lent = lent
+after_taken (Err why) rows lent = lent
 
 -- what `table_of` promises
 pub record Takes (rows lent : List ℕ) (answer : Taken) (after : List ℕ) : Type 0 where

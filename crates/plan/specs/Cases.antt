@@ -1,6 +1,6 @@
 -- Worked cases of the plan file: document 01's plan of P2 with eight records, whole and damaged, and the writer's refusals.
 -- Assumes nothing.
-use Rattle.std.specs.Prelude.{◌≡◌, Bool, true, false, List, [], ◌∷◌, ◌++◌, ℕ, ◌+◌, take, set, replicate, Option, None, Some, Ok}
+use Rattle.std.specs.Prelude.{Err, ◌≡◌, Bool, true, false, List, [], ◌∷◌, ◌++◌, ℕ, ◌+◌, take, set, replicate, Option, None, Some, Ok}
 use Rattle.refusals.specs.declared.Refusal.{Refusal}
 use Rattle.refusals.specs.Refusals.{Line, line, line_of}
 use Rattle.plan.specs.declared.Tick.{Tick}
@@ -154,6 +154,6 @@ pub record BodiesRight : Type 0 where
   -- into four lent numbers, into two, and of bytes that aren't in fours
   pub enough : taken_of three_numbers 4 ≡ Ok 3
   pub enough_after : after_taken (Ok 3) three_numbers (9 ∷ 9 ∷ 9 ∷ 9 ∷ []) ≡ 10 ∷ 1000000 ∷ 4294967295 ∷ 9 ∷ []
-  pub too_few : taken_of three_numbers 2 ≡ TooShort 3
-  pub too_few_after : after_taken (TooShort 3) three_numbers (9 ∷ 9 ∷ []) ≡ 9 ∷ 9 ∷ []
-  pub not_in_fours : taken_of (take 7 three_numbers) 4 ≡ NotInFours 7
+  pub too_few : taken_of three_numbers 2 ≡ Err (TooShort 3)
+  pub too_few_after : after_taken (Err (TooShort 3)) three_numbers (9 ∷ 9 ∷ []) ≡ 9 ∷ 9 ∷ []
+  pub not_in_fours : taken_of (take 7 three_numbers) 4 ≡ Err (NotInFours 7)

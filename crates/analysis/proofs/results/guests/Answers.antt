@@ -8,11 +8,11 @@ use Rattle.equations.proofs.Bounds.{T≤, D≤, E≤D}
 use Rattle.equations.proofs.Jobs.{guest≤}
 use Rattle.equations.proofs.Checks.{stopped_passed, rows_stop, rows_next, rows_end}
 use Rattle.analysis.proofs.Loops.{guests_more}
-use Rattle.analysis.proofs.results.guests.Goals.{In-Is}
+use Rattle.analysis.proofs.results.guests.Goals.{In-Ok}
 use Rattle.analysis.proofs.results.guests.Goals as goal
 
 -- the response that was found
-found : (c : In-Is) → guest c.args.table.now
+found : (c : In-Ok) → guest c.args.table.now
     c.loop-i.i ≡ Ok c.in-Ok.g
 found c = sym c.guest_of.ensures ∙ c.in-Ok.is
 
@@ -29,13 +29,13 @@ returns-in-Err c = let s = c.args.table.now in
 pub overflow_cast-gs : goal.overflow_cast-gs
 overflow_cast-gs c = let s = c.args.table.now in
     let i = c.loop-i.i in
-    omega (arith, guest≤ s i _ (found (goal.at.overflow_cast-gs c).In-Is), E≤D s i, D≤ s c.requires.0 i (omega arith), T≤ s c.requires.0 i (omega arith))
+    omega (arith, guest≤ s i _ (found (goal.at.overflow_cast-gs c).In-Ok), E≤D s i, D≤ s c.requires.0 i (omega arith), T≤ s c.requires.0 i (omega arith))
 
 pub loop-i-preserved : goal.loop-i-preserved
 loop-i-preserved c = let s = c.args.table.now in
     let l = c.loop-i in (
-      rows_next (guest s) _ l.i _ l.invariant.0 (omega arith) (found (goal.at.loop-i-preserved c).In-Is),
-      guests_more s l.gs l.i _ l.invariant.1 (omega arith) (found (goal.at.loop-i-preserved c).In-Is),
+      rows_next (guest s) _ l.i _ l.invariant.0 (omega arith) (found (goal.at.loop-i-preserved c).In-Ok),
+      guests_more s l.gs l.i _ l.invariant.1 (omega arith) (found (goal.at.loop-i-preserved c).In-Ok),
     )
 
 pub returns : goal.returns

@@ -8,11 +8,11 @@ use Rattle.equations.proofs.Bounds.{D≤}
 use Rattle.equations.proofs.Jobs.{response≤}
 use Rattle.equations.proofs.Checks.{stopped_passed, rows_stop, rows_next, rows_end}
 use Rattle.analysis.proofs.Loops.{filled_more}
-use Rattle.analysis.proofs.results.hypertasks.Goals.{In-Is}
+use Rattle.analysis.proofs.results.hypertasks.Goals.{In-Ok}
 use Rattle.analysis.proofs.results.hypertasks.Goals as goal
 
 -- the response that was found
-found : (c : In-Is) → response c.args.table.now
+found : (c : In-Ok) → response c.args.table.now
     c.loop-i.i ≡ Ok c.in-Ok.r
 found c = sym c.response_of.ensures ∙ c.in-Ok.is
 
@@ -29,16 +29,16 @@ returns-in-Err c = let s = c.args.table.now in
 pub overflow_cast-rs : goal.overflow_cast-rs
 overflow_cast-rs c = let s = c.args.table.now in
     let i = c.loop-i.i in
-    omega (arith, response≤ s i _ (found (goal.at.overflow_cast-rs c).In-Is), D≤ s c.requires.0 i (omega arith))
+    omega (arith, response≤ s i _ (found (goal.at.overflow_cast-rs c).In-Ok), D≤ s c.requires.0 i (omega arith))
 
 pub overflow_sub-es : goal.overflow_sub-es
 overflow_sub-es c = let s = c.args.table.now in
-    omega (arith, response≤ s c.loop-i.i _ (found (goal.at.overflow_sub-es c).In-Is))
+    omega (arith, response≤ s c.loop-i.i _ (found (goal.at.overflow_sub-es c).In-Ok))
 
 pub loop-i-preserved : goal.loop-i-preserved
 loop-i-preserved c = let s = c.args.table.now in
     let l = c.loop-i in
-    let f = found (goal.at.loop-i-preserved c).In-Is in
+    let f = found (goal.at.loop-i-preserved c).In-Ok in
     (rows_next (response s) _ l.i _ l.invariant.0 (omega arith) f, rw c.cell-d.ensures (filled_more s l.rs l.es l.i _ l.invariant.1 (omega arith) f))
 
 pub returns : goal.returns
