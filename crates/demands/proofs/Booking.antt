@@ -76,7 +76,7 @@ pub named_is_chosen : (m : Machine) (t : Tick) (said : Taken) (i : ℕ) → (ste
 unfolding step_of taken
 named_is_chosen m t said i e w = go (verdict m t.mask) e
   where
-    said_is : (a b : Taken) → Ok a ≡ Ok b → a ≡ b
+    said_is : (a b : Taken) → ◌≡◌ {A = Answer} (Ok a) (Ok b) → a ≡ b
     said_is a b e = cc
 
     by : (f : Found) → chosen (rows_for m t) ≡ f → (ran_on m.count m.clock (rows_for m t) t.signal t.early f).answer ≡ Ok said

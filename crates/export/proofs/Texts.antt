@@ -8,14 +8,14 @@ use borrow.Author.Tests.{lt-ltb, le-ltb, leb-true, leb-false}
 use lib.ListN.{length}
 use Rattle.std.specs.Prelude.{Ok}
 use Rattle.report.specs.Report.{reported_by, left_by, fits, text_of, Reports}
-use Rattle.report.specs.Answers.{Reported, too_short}
+use Rattle.report.specs.Answers.{Reported}
 use Rattle.export.specs.Files.{to_front}
 use Rattle.export.specs.Texts.{PrintsRun}
 
 -- either way the answer holds the text's length
 abbrev pub length_said : Reported → ℕ
 length_said (Ok n) = n
-length_said (TooShort n) = n
+length_said (Err short) = short.needed
 
 said : (b : Bool) (t : List ℕ) → length_said (reported_by b t) ≡ length t
 said true t = refl

@@ -3,8 +3,8 @@ use Rattle.std.specs.Prelude.{ℕ, Result}
 use Rattle.report.specs.declared.TooShort.{TooShort}
 
 -- lent bytes too few; how many are needed
-abbrev pub too_short : ℕ → TooShort
-too_short n = record { needed = n }
+abbrev pub needing : ℕ → TooShort
+needing n = record { needed = n }
 
 -- how many bytes were written, or how many are needed
 abbrev pub Reported : Type 0

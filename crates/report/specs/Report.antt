@@ -15,7 +15,7 @@ use Rattle.plan.specs.PlanFile.{read_refusal, part_of, rows_kind, script_kind}
 use Rattle.demands.specs.Runs.{Tick, TakenTick, Run, after, run}
 use Rattle.demands.specs.Jobs.{jobs_arrived, guest_outputs_of, hypertask_outputs_of, jobs_open}
 use Rattle.text.specs.Lines.{accept_line, row_line, refuse_line, tick_line, task_line}
-use Rattle.report.specs.Answers.{Reported, too_short}
+use Rattle.report.specs.Answers.{Reported, needing}
 
 -- "task, T, D, C, K, R, E, G", of n rows from row i on
 unfoldable pub row_lines : List ℕ → ℕ → ℕ → List ℕ
@@ -70,7 +70,7 @@ text_of file = plan_by file (read_refusal file)
 -- the lent bytes hold the text at their front and are as they were past it; or they are too short and as they were
 abbrev pub reported_by : Bool → List ℕ → Reported
 reported_by true text = Ok (length text)
-reported_by false text = TooShort (length text)
+reported_by false text = Err (needing (length text))
 
 abbrev pub left_by : Bool → List ℕ → List ℕ → List ℕ
 left_by true text lent = text ++ drop (length text) lent

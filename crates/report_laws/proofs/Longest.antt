@@ -27,7 +27,7 @@ use Rattle.demands.specs.Jobs.{brought, guest_gives, hypertask_gives, is_open, j
 use Rattle.demands.proofs.Accepted.{schedulable}
 use Rattle.text.specs.Put.{last_place}
 use Rattle.text.specs.Lines.{accept_line, row_line, task_line}
-use Rattle.report.specs.Answers.{too_short}
+use Rattle.report.specs.Answers.{Reported, needing}
 use Rattle.report.specs.Report.{row_lines, ticks_of, task_lines, tick_lines, script_text, answer_by, table_text, plan_by, text_of, fits, Reports}
 use Rattle.report.proofs.Counts.{number_low}
 use Rattle.report.proofs.Ticks.{taken_few}
@@ -137,9 +137,9 @@ no_text_longer file h = go (read_refusal file) refl (read_place file h)
 
 -- so TooShort does not arise where 655,360 bytes are lent
 pub never_too_short : (file lent after : List ℕ) (n : ℕ) → length file ≤ last_place → 655360 ≤ length lent
-    → Reports file lent (TooShort n) after → ⊥
+    → Reports file lent (Err (needing n)) after → ⊥
 never_too_short file lent after n h k r =
     let e : fits (text_of file) lent ≡ true = le-leb (length (text_of file)) (length lent) (omega (arith, no_text_longer file h)) in
-    let a : TooShort n ≡ Ok (length (text_of file)) = rw e at r.answers in
+    let a : ◌≡◌ {A = Reported} (Err (needing n)) (Ok (length (text_of file))) = rw e at r.answers in
     let z : ◌≡◌ {A = ℕ} 0 1 = cc in
     omega arith
