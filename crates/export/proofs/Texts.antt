@@ -6,7 +6,7 @@ use mathlib.Core.List.{List}
 use Prim.Native.Nat.{ℕ}
 use borrow.Author.Tests.{lt-ltb, le-ltb, leb-true, leb-false}
 use lib.ListN.{length}
-use Rattle.std.specs.Prelude.{Ok}
+use Rattle.std.specs.Prelude.{Err, Ok, Err}
 use Rattle.report.specs.Report.{reported_by, left_by, fits, text_of, Reports}
 use Rattle.report.specs.Answers.{Reported}
 use Rattle.export.specs.Files.{to_front}
