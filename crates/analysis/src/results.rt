@@ -9,7 +9,11 @@ use super::{guest, hypertask, numbers};
 use refusals::Refusal;
 
 // R and E of each row, or the first refusal of 5 and 6.
-pub(crate) fn hypertasks(table: &[u32], rs: &mut [u32; 32], es: &mut [u32; 32]) -> Result<(), Refusal>
+pub(crate) fn hypertasks(
+    table: &[u32],
+    rs: &mut [u32; 32],
+    es: &mut [u32; 32],
+) -> Result<(), Refusal>
     requires { (Sound table.now) × (length rs.old ≡ 32) × (length es.old ≡ 32) }
     ensures value { result ≡ hypertask_check table.now }
     ensures filled { result ≡ Ok tt → Filled table.now rs.new es.new (rows table.now) }

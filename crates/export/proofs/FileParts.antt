@@ -34,7 +34,7 @@ refuses : (o : Option Refusal) (r : Refusal) → Err r ≡ answer_of o → o ≡
 refuses None r e = let z : ◌≡◌ {A = ℕ} 0 1 = cc in absurd (lt_irrefl 0 (omega arith))
 refuses (Some q) r e = cc
 
-pub check_accepted : (file : List ℕ) (x : Answer) → x ≡ answer_of (read_refusal file) → x ≡ (Ok tt) → ChecksFile file 0 0
+pub check_accepted : (file : List ℕ) (x : Answer) → x ≡ answer_of (read_refusal file) → x ≡ Ok tt → ChecksFile file 0 0
 check_accepted file x e a =
     let n = sym (accepts (read_refusal file) (sym a ∙ e)) in
     record { answers = ap refusal_number n; places = ap (λ (o : Option Refusal). refusal_place o 0) n }

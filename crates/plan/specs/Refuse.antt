@@ -19,7 +19,7 @@ refuse_at r None next = next
 -- as the code answers them
 abbrev pub answer_of : Option Refusal → Answer
 answer_of (Some r) = Err r
-answer_of None = (Ok tt)
+answer_of None = Ok tt
 
 abbrev pub found_of : Option ℕ → Found
 found_of (Some k) = At k

@@ -7,8 +7,7 @@ ghost use Rattle.plan.specs.PlanFile.{entries_refusal, read_refusal, part_of};
 ghost use Rattle.plan.specs.Inside.{Listed, Placed};
 
 use super::{
-    Ask, Entry, Found, MOST_SECTIONS, ROWS, SCRIPT, first_wrong_record, number,
-    wrong_length,
+    Ask, Entry, Found, MOST_SECTIONS, ROWS, SCRIPT, first_wrong_record, number, wrong_length,
 };
 use refusals::Refusal;
 

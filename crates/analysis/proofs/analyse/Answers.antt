@@ -7,7 +7,7 @@ use Rattle.equations.proofs.Checks.{results_short, results_fit, refused_1_to_3, 
 use Rattle.analysis.proofs.analyse.Goals.{In_default}
 use Rattle.analysis.proofs.analyse.Goals as goal
 
-table_passes : (c : In_default) → table_check c.args.table.now ≡ (Ok tt)
+table_passes : (c : In_default) → table_check c.args.table.now ≡ Ok tt
 table_passes c = sym c.check.ensures.value ∙ c.in_default.is
 
 pub returns-in-Err : goal.returns-in-Err

@@ -16,7 +16,7 @@ filled : (c : In_default) → Filled c.args.table.now
     c.hypertasks.new.rs c.hypertasks.new.es (rows c.args.table.now)
 filled c = c.hypertasks.ensures.filled c.in_default.is
 
-hypertasks_pass : (c : In_default) → hypertask_check c.args.table.now ≡ (Ok tt)
+hypertasks_pass : (c : In_default) → hypertask_check c.args.table.now ≡ Ok tt
 hypertasks_pass c = sym c.hypertasks.ensures.value ∙ c.in_default.is
 
 -- and G
@@ -27,7 +27,7 @@ guests_filled : (c : In_default-guests)
 guests_filled c = c.guests.ensures.guests_filled c.in_default-guests.is
 
 guests_pass : (c : In_default-guests)
-    → guest_check c.args.table.now ≡ (Ok tt)
+    → guest_check c.args.table.now ≡ Ok tt
 guests_pass c = sym c.guests.ensures.value ∙ c.in_default-guests.is
 
 pub returns-in-Err : goal.returns-in-Err
