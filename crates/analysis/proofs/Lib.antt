@@ -1,2 +1,9 @@
-pub mod Loops
+pub mod Rounded
+pub mod Ranges
+pub mod Positions
+pub mod Shape
+pub mod Limits
+pub mod Searched
+pub mod Found
+pub mod Entered
 pub mod Determined

@@ -1,56 +1,43 @@
--- What the private functions say of their loops and local arrays; the public promise needs none of it.
+-- What the private functions say of the sound table and of the responses that stand in a local array; the public promise needs none of it.
 -- Assumes nothing.
-use Rattle.std.specs.Prelude.{◌≡◌, List, [], ◌∷◌, ℕ, ◌+◌, ◌≤◌, ◌<◌, length, get_or, Option, None, Some, Ok}
-use Rattle.least.specs.Sums.{sum}
+use Rattle.std.specs.Prelude.{◌≡◌, List, [], ◌∷◌, ℕ, ◌≤◌, ◌<◌, length, get_or, Result, Ok, Err}
+use Rattle.refusals.specs.declared.Refusal.{Refusal}
 use Rattle.equations.specs.Table.{rows}
-use Rattle.equations.specs.Hypertask.{start_demand, response, E}
+use Rattle.equations.specs.Hypertask.{response, E}
 use Rattle.equations.specs.Guest.{guest}
-use Rattle.analysis.specs.declared.numbers.Found.{Found}
-use Rattle.analysis.specs.declared.numbers.Found.TheVariants.{At, Nothing}
-use Rattle.analysis.specs.declared.checks.Place.{Place}
-use Rattle.analysis.specs.declared.checks.Place.TheVariants.{Here, Nowhere}
+use Rattle.equations.specs.Answers.{Checked}
+use Rattle.analysis.specs.declared.results.Responses.{Responses}
 
--- a solution, or none, as the code answers it
-abbrev pub found_of : Option ℕ → Found
-found_of None = Nothing
-found_of (Some t) = At t
+-- the table that passes the checks, or their refusal
+abbrev pub passed : List ℕ → Checked → Result (List ℕ) Refusal
+passed s (Ok tt) = Ok s
+passed s (Err f) = Err f
 
--- a place, or none, as the code answers it
-abbrev pub place_of : Option ℕ → Place
-place_of None = Nowhere
-place_of (Some k) = Here k
+abbrev pub nothing : Responses
+nothing = record { r = 0; e = 0; g = 0 }
 
--- the right side of a start's equation, from the row's own part
-unfoldable pub starts_from : List ℕ → ℕ → ℕ → ℕ → ℕ
-starts_from s i own w = own + sum (start_demand s w) i
+-- the responses of row j, as they stand among the rows'
+abbrev pub at_row : List Responses → ℕ → Responses
+at_row found j = get_or found j nothing
 
--- the E of each row, in a list
-abbrev pub offsets_in : List ℕ → ℕ → ℕ
-offsets_in es j = get_or es j 0
+abbrev pub offset_in : List Responses → ℕ → ℕ
+offset_in found j = (at_row found j).e
 
-pub record Offsets (s es : List ℕ) : Type 0 where
-  pub long : length es ≡ 32
-  pub at : (j : ℕ) → j < rows s → offsets_in es j ≡ E s j
+-- E of each row stands there
+pub record Offsets (s : List ℕ) (found : List Responses) : Type 0 where
+  pub long : rows s ≤ length found
+  pub at : (j : ℕ) → j < rows s → offset_in found j ≡ E s j
 
--- T, C and K of a row of a sound table
-pub record Fields (t c k : ℕ) : Type 0 where
-  pub some : 1 ≤ t
-  pub t≤ : t ≤ 1000000
-  pub c≤ : c ≤ 1000000
-  pub k≤ : k ≤ 1000000
+-- R and E of the first n rows stand there
+pub record Hypertasks (s : List ℕ) (found : List Responses) (n : ℕ) : Type 0 where
+  pub long : length found ≡ 32
+  pub r : (j : ℕ) → j < n → response s j ≡ Ok (at_row found j).r
+  pub e : (j : ℕ) → j < n → offset_in found j ≡ E s j
 
--- R and E of the first n rows stand in two lists
-pub record Filled (s rs es : List ℕ) (n : ℕ) : Type 0 where
-  pub long : length rs ≡ 32
-  pub long' : length es ≡ 32
-  pub r : (j : ℕ) → j < n → response s j ≡ Ok (get_or rs j 0)
-  pub e : (j : ℕ) → j < n → get_or es j 0 ≡ E s j
+-- G of the first n rows stands there
+pub record Guests (s : List ℕ) (found : List Responses) (n : ℕ) : Type 0 where
+  pub g : (j : ℕ) → j < n → guest s j ≡ Ok (at_row found j).g
 
--- G of the first n rows stands in a list
-pub record GuestsFilled (s gs : List ℕ) (n : ℕ) : Type 0 where
-  pub long : length gs ≡ 32
-  pub g : (j : ℕ) → j < n → guest s j ≡ Ok (get_or gs j 0)
-
--- R, E and G of row j, from three lists
-abbrev pub three_in : List ℕ → List ℕ → List ℕ → ℕ → List ℕ
-three_in rs es gs j = get_or rs j 0 ∷ get_or es j 0 ∷ get_or gs j 0 ∷ []
+-- R, E and G of row j
+abbrev pub three_at : List Responses → ℕ → List ℕ
+three_at found j = (at_row found j).r ∷ (at_row found j).e ∷ (at_row found j).g ∷ []

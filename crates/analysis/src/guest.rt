@@ -1,134 +1,135 @@
-// G of a row: the two windows over the request bounds.
-ghost use Rattle.std.specs.Prelude.{◌≡◌, ℕ, ◌+◌, ◌-◌, ◌*◌, ◌<◌, ◌≤◌, length};
+// G of a task: the two windows over the request bounds.
+ghost use Rattle.std.specs.Prelude.{◌≡◌, ℕ, ◌+◌, ◌-◌, ◌*◌, ◌<◌, ◌≤◌, Option};
 ghost use Rattle.least.specs.Search.{first};
 ghost use Rattle.least.specs.Sums.{sum};
-ghost use Rattle.equations.specs.Table.{rows, Sound};
+ghost use Rattle.equations.specs.Table.{rows, T, C, K};
 ghost use Rattle.equations.specs.Guest.{begun_by_hypertask, begun_by_guest, bound, below, window_side, WA, WE, guest};
-ghost use Rattle.analysis.specs.Loops.{found_of, offsets_in, Offsets, Fields};
+ghost use Rattle.equations.proofs.Bounds.{window_never_falls};
+ghost use Rattle.analysis.specs.Loops.{offset_in, Offsets};
 
-use super::numbers::Found;
-use super::{hypertask, numbers};
+use crate::results::Responses;
+use crate::search::{Equation, least};
+use crate::table::Task;
 use refusals::Refusal;
 
-// The request bound that a hypertask begins.
-fn begun_by_hypertask(t: u64, c: u64, k: u64, e: u64, w: u64) -> u64
-    requires { Fields t c k × (w ≤ 5000000) }
-    ensures { result ≡ begun_by_hypertask t c k e w }
-{
-    numbers::load(numbers::less(w, numbers::less(t, e)), t, c) + numbers::load(w, t, k)
+// A task's guest, where E of each row has been found.
+#[derive(Clone, Copy)]
+pub(crate) struct Guest<'a> {
+    pub(crate) task: Task<'a>,
+    pub(crate) found: &'a [Responses],
+    pub ghost offsets: { Offsets task.table.now found.now },
 }
 
-// The request bound that a guest begins.
-fn begun_by_guest(t: u64, c: u64, k: u64, e: u64, w: u64) -> u64
-    requires { Fields t c k × (w ≤ 5000000) }
-    ensures { result ≡ begun_by_guest t c k e w }
-{
-    numbers::load(w, t, c) + numbers::load(numbers::less(w, e), t, k)
+// A window's equation: the task's own part is C, or C + K.
+#[derive(Drop)]
+struct Window<'a> {
+    guest: Guest<'a>,
+    own: u64,
+    ghost small: { own ≤ 2000000 },
 }
 
-// The larger of the two for row j, whose E stands in es.
-fn bound_of(table: &[u32], es: &[u32], j: usize, w: u64) -> u64
-    requires { (Sound table.now) × (length es.now ≡ 32) × (j < rows table.now) × (w ≤ 5000000) }
-    ensures { result ≡ bound table.now (offsets_in es.now) w j }
-{
-    let t = numbers::cell(table, 4 * j);
-    let c = numbers::cell(table, 4 * j + 2);
-    let k = numbers::cell(table, 4 * j + 3);
-    let e = numbers::cell(es, j);
-    numbers::larger(
-        begun_by_hypertask(t, c, k, e, w),
-        begun_by_guest(t, c, k, e, w),
-    )
-}
+#[tactic(auto, using(crate::proofs::Limits::windows), unfolding(equations::specs::Guest::begun_by_hypertask, equations::specs::Guest::begun_by_guest, equations::specs::Guest::bound, equations::specs::Guest::window_side, equations::specs::Guest::F))]
+impl Equation for Window<'_> {
+    ghost side = { λ e. window_side e.guest.task.table.now (offset_in e.guest.found.now) e.guest.task.row e.own };
 
-// The sum of these over the rows above i.
-fn bounds_above(table: &[u32], es: &[u32], i: usize, w: u64) -> u64
-    requires { (Sound table.now) × (length es.now ≡ 32) × (i < rows table.now) × (w ≤ 5000000) }
-    ensures { result ≡ sum (bound table.now (offsets_in es.now) w) i }
-{
-    let mut total: u64 = 0;
-    for j in 0..i {
-        total += bound_of(table, es, j, w);
+    fn side(&self, w: u64) -> u64 {
+        self.own + (self.guest.task.demand_below(w) + self.guest.bounds_above(w))
     }
-    total
+
+    ghost never_falls = { λ e. window_never_falls e.guest.task.table.now (offset_in e.guest.found.now) e.guest.task.row e.own };
 }
 
-// The sum of up(w/T)·K over the rows below i.
-fn demand_below(table: &[u32], i: usize, w: u64) -> u64
-    requires { (Sound table.now) × (i < rows table.now) × (w ≤ 5000000) }
-    ensures { result ≡ below table.now i w }
-{
-    let n = table.len() / 4 - (i + 1);
-    let mut total: u64 = 0;
-    for k in 0..n {
-        total += hypertask::demand_of(table, i + 1 + k, w);
+#[tactic(auto, using(crate::proofs::Limits::windows), unfolding(equations::specs::Guest::begun_by_hypertask, equations::specs::Guest::begun_by_guest, equations::specs::Guest::bound, equations::specs::Guest::window_side, equations::specs::Guest::F))]
+impl<'a> Guest<'a> {
+    // E of row j.
+    fn e(&self, j: usize) -> u64
+        requires { j < rows self.now.task.table.now }
+        ensures { result ≡ offset_in self.now.found.now j }
+    {
+        u64::from(self.found[j].e)
     }
-    total
-}
 
-// The right side of a window's equation.
-fn window_side(table: &[u32], es: &[u32], i: usize, own: u64, w: u64) -> u64
-    requires { (Sound table.now) × (length es.now ≡ 32) × (i < rows table.now) × (own ≤ 2000000) × (w ≤ 5000000) }
-    ensures { result ≡ window_side table.now (offsets_in es.now) i own w }
-{
-    own + (demand_below(table, i, w) + bounds_above(table, es, i, w))
-}
-
-// The least window from 1 to `last`: w is set to the right side until it stays or passes `last`.
-fn seek_window(table: &[u32], es: &[u32], i: usize, own: u64, last: u64) -> Found
-    requires { (Sound table.now) × (length es.now ≡ 32) × (i < rows table.now) × (1 ≤ own) × (own ≤ 2000000) × (last ≤ 1000000) }
-    ensures { result ≡ found_of (first (window_side table.now (offsets_in es.now) i own) 1 last) }
-{
-    if last == 0 {
-        return Found::Nothing;
+    // The sum of the request bounds of the rows above.
+    fn bounds_above(&self, w: u64) -> u64
+        requires { w ≤ 5000000 }
+        ensures { result ≡ sum (bound self.now.task.table.now (offset_in self.now.found.now) w) self.now.task.row }
+    {
+        (0..self.task.row)
+            .map(|j| self.task.at(j).bound(self.e(j), w))
+            .sum()
     }
-    let mut w: u64 = 1;
-    loop {
-        let next = window_side(table, es, i, own, w);
-        if next == w {
-            return Found::At(w);
-        }
-        if last < next {
-            return Found::Nothing;
-        }
-        w = next;
+
+    // WA(i)
+    fn window_begun_by_guest(&self) -> Option<u64>
+        ensures { result ≡ WA self.now.task.table.now self.now.task.row }
+    {
+        let window = Window {
+            guest: *self,
+            own: self.task.c(),
+        };
+        least(&window, 1, self.e(self.task.row) + 1)
+    }
+
+    // WE(i)
+    fn window_begun_by_hypertask(&self) -> Option<u64>
+        ensures { result ≡ WE self.now.task.table.now self.now.task.row }
+    {
+        let window = Window {
+            guest: *self,
+            own: self.task.c() + self.task.k(),
+        };
+        least(&window, 1, self.task.t() + 1)
+    }
+
+    // G(i), or refusal 7 or 19 at its task.
+    pub(crate) fn response(&self) -> Result<u64, Refusal>
+        ensures { result ≡ guest self.now.task.table.now self.now.task.row }
+    {
+        let wa = self
+            .window_begun_by_guest()
+            .ok_or(Refusal::NoGuestWindow(self.task.row + 1))?;
+        let we = self
+            .window_begun_by_hypertask()
+            .ok_or(Refusal::NoHypertaskWindow(self.task.row + 1))?;
+        let before = self.task.t().saturating_sub(self.e(self.task.row));
+        Ok(wa.max(we.saturating_sub(before)))
     }
 }
 
-// WA(i).
-fn window_begun_by_guest(table: &[u32], es: &[u32], i: usize) -> Found
-    requires { (Sound table.now) × (Offsets table.now es.now) × (i < rows table.now) }
-    ensures { result ≡ found_of (WA table.now i) }
-{
-    seek_window(
-        table,
-        es,
-        i,
-        numbers::cell(table, 4 * i + 2),
-        numbers::cell(es, i),
-    )
-}
+#[tactic(auto, using(crate::proofs::Limits::windows), unfolding(equations::specs::Guest::begun_by_hypertask, equations::specs::Guest::begun_by_guest, equations::specs::Guest::bound, equations::specs::Guest::window_side, equations::specs::Guest::F))]
+impl<'a> Task<'a> {
+    // The request bound that a hypertask begins.
+    fn begun_by_hypertask(&self, e: u64, w: u64) -> u64
+        requires { w ≤ 5000000 }
+        ensures { result ≡ begun_by_hypertask (T self.now.table.now self.now.row) (C self.now.table.now self.now.row) (K self.now.table.now self.now.row) e w }
+    {
+        let after = self.t().saturating_sub(e);
+        self.load(w.saturating_sub(after), self.c()) + self.load(w, self.k())
+    }
 
-// WE(i).
-fn window_begun_by_hypertask(table: &[u32], es: &[u32], i: usize) -> Found
-    requires { (Sound table.now) × (Offsets table.now es.now) × (i < rows table.now) }
-    ensures { result ≡ found_of (WE table.now i) }
-{
-    let own = numbers::cell(table, 4 * i + 2) + numbers::cell(table, 4 * i + 3);
-    seek_window(table, es, i, own, numbers::cell(table, 4 * i))
-}
+    // The request bound that a guest begins.
+    fn begun_by_guest(&self, e: u64, w: u64) -> u64
+        requires { w ≤ 5000000 }
+        ensures { result ≡ begun_by_guest (T self.now.table.now self.now.row) (C self.now.table.now self.now.row) (K self.now.table.now self.now.row) e w }
+    {
+        self.load(w, self.c()) + self.load(w.saturating_sub(e), self.k())
+    }
 
-// G(i), or refusal 7 or 19 at its task.
-pub(crate) fn guest_of(table: &[u32], es: &[u32], i: usize) -> Result<u64, Refusal>
-    requires { (Sound table.now) × (Offsets table.now es.now) × (i < rows table.now) }
-    ensures { result ≡ guest table.now i }
-{
-    let Found::At(a) = window_begun_by_guest(table, es, i) else {
-        return Err(Refusal::NoGuestWindow(i + 1));
-    };
-    let Found::At(e) = window_begun_by_hypertask(table, es, i) else {
-        return Err(Refusal::NoHypertaskWindow(i + 1));
-    };
-    let before = numbers::less(numbers::cell(table, 4 * i), numbers::cell(es, i));
-    Ok(numbers::larger(a, numbers::less(e, before)))
+    // The larger of the two.
+    fn bound(&self, e: u64, w: u64) -> u64
+        requires { w ≤ 5000000 }
+        ensures { result ≡ bound self.now.table.now (λ _. e) w self.now.row }
+    {
+        self.begun_by_hypertask(e, w).max(self.begun_by_guest(e, w))
+    }
+
+    // The sum of up(w/T)·K over the rows below.
+    fn demand_below(&self, w: u64) -> u64
+        requires { w ≤ 5000000 }
+        ensures { result ≡ below self.now.table.now self.now.row w }
+    {
+        (self.row + 1..self.rows())
+            .map(|j| self.at(j).demand(w))
+            .sum()
+    }
 }

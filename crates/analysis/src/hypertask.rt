@@ -1,179 +1,161 @@
-// R of a row: active period, starts of its jobs, the largest response.
-ghost use Rattle.std.specs.Prelude.{◌≡◌, ℕ, suc, ◌+◌, ◌-◌, ◌*◌, ◌<◌, ◌≤◌};
-ghost use Rattle.least.specs.Search.{first};
+// R of a task: active period, starts of its jobs, the largest response.
+ghost use Rattle.std.specs.Prelude.{◌≡◌, ℕ, suc, ◌+◌, ◌-◌, ◌*◌, ◌<◌, ◌≤◌, Option};
 ghost use Rattle.least.specs.Sums.{sum};
 ghost use Rattle.equations.specs.Table.{rows, T, Sound};
 ghost use Rattle.equations.specs.Hypertask.{B, demand, active_side, active_period, start_demand, start, job_response, worst, response};
 ghost use Rattle.equations.specs.Hypertask.{releases as releasesOf};
-ghost use Rattle.analysis.specs.Loops.{found_of, starts_from};
+ghost use Rattle.equations.proofs.Bounds.{active_never_falls, starts_never_fall};
 
-use super::numbers;
-use super::numbers::Found;
+use crate::search::{Equation, least};
+use crate::table::Task;
 use refusals::Refusal;
 
-// up(t/T)·K of row j.
-pub(crate) fn demand_of(table: &[u32], j: usize, t: u64) -> u64
-    requires { (Sound table.now) × (j < rows table.now) × (t ≤ 5000000) }
-    ensures { result ≡ demand table.now t j }
-{
-    numbers::load(
-        t,
-        numbers::cell(table, 4 * j),
-        numbers::cell(table, 4 * j + 3),
-    )
+const LONGEST_ACTIVE_PERIOD: u64 = 4_000_000;
+
+// A task's hypertask, with B(i) as it was found.
+#[derive(Drop)]
+struct Hypertask<'a> {
+    task: Task<'a>,
+    b: u64,
+    ghost blocking: { b ≡ B task.table.now task.row },
 }
 
-// The sum of these over the rows above i.
-fn demand_above(table: &[u32], i: usize, t: u64) -> u64
-    requires { (Sound table.now) × (i < rows table.now) × (t ≤ 5000000) }
-    ensures { result ≡ sum (demand table.now t) i }
-{
-    let mut total: u64 = 0;
-    for j in 0..i {
-        total += demand_of(table, j, t);
+// The active period's equation.
+#[tactic(auto, using(crate::proofs::Limits::limits, crate::proofs::Rounded::div_ceil_is_up), unfolding(equations::specs::Hypertask::active_side, equations::specs::Hypertask::releases, equations::specs::Hypertask::start_demand, equations::specs::Hypertask::active_period))]
+impl Equation for Hypertask<'_> {
+    ghost side = { λ e. active_side e.task.table.now e.task.row };
+
+    fn side(&self, t: u64) -> u64 {
+        self.b + self.task.demand(t) + self.task.demand_above(t)
     }
-    total
+
+    ghost never_falls = { λ e. active_never_falls e.task.table.now e.task.row };
 }
 
-// B(i).
-fn blocking(table: &[u32], i: usize) -> u64
-    requires { (Sound table.now) × (i < rows table.now) }
-    ensures { result ≡ B table.now i }
-{
-    let n = table.len() / 4 - (i + 1);
-    let mut most: u64 = 0;
-    for k in 0..n {
-        most = numbers::larger(most, numbers::cell(table, 4 * (i + 1 + k) + 3));
+// A start's equation: the task's own part is B + (q − 1)·K.
+#[derive(Drop)]
+struct Start<'a> {
+    task: Task<'a>,
+    own: u64,
+    ghost small: { own ≤ 6000000000000 },
+}
+
+#[tactic(auto, using(crate::proofs::Limits::limits, crate::proofs::Rounded::div_ceil_is_up), unfolding(equations::specs::Hypertask::active_side, equations::specs::Hypertask::releases, equations::specs::Hypertask::start_demand, equations::specs::Hypertask::active_period))]
+impl Equation for Start<'_> {
+    ghost side = { λ e w. e.own + sum (start_demand e.task.table.now w) e.task.row };
+
+    fn side(&self, w: u64) -> u64 {
+        self.own + self.task.start_demand_above(w)
     }
-    most
+
+    ghost never_falls = { λ e. starts_never_fall e.task.table.now e.task.row e.own };
 }
 
-// The right side of the active period's equation, with B(i) as it was found.
-fn active_side(table: &[u32], i: usize, b: u64, t: u64) -> u64
-    requires { (Sound table.now) × (i < rows table.now) × (b ≡ B table.now i) × (t ≤ 5000000) }
-    ensures { result ≡ active_side table.now i t }
-{
-    b + demand_of(table, i, t) + demand_above(table, i, t)
-}
-
-// t(i): t is set to the right side until it stays or passes 4,000,000.
-fn active_period(table: &[u32], i: usize, b: u64) -> Found
-    requires { (Sound table.now) × (i < rows table.now) × (b ≡ B table.now i) }
-    ensures { result ≡ found_of (active_period table.now i) }
-{
-    let mut t: u64 = 1;
-    loop {
-        let next = active_side(table, i, b, t);
-        if next == t {
-            return Found::At(t);
-        }
-        if 4000000 < next {
-            return Found::Nothing;
-        }
-        t = next;
+#[tactic(auto, using(crate::proofs::Limits::limits, crate::proofs::Rounded::div_ceil_is_up), unfolding(equations::specs::Hypertask::active_side, equations::specs::Hypertask::releases, equations::specs::Hypertask::start_demand, equations::specs::Hypertask::active_period))]
+impl<'a> Hypertask<'a> {
+    // t(i)
+    fn active_period(&self) -> Option<u64>
+        ensures { result ≡ active_period self.now.task.table.now self.now.task.row }
+    {
+        least(self, 1, LONGEST_ACTIVE_PERIOD + 1)
     }
-}
 
-// The releases of row j that equation 2 counts within w.
-fn releases(table: &[u32], j: usize, w: u64) -> u64
-    requires { (Sound table.now) × (j < rows table.now) × (w ≤ 5000000) }
-    ensures { result ≡ releasesOf table.now w j }
-{
-    numbers::rounded_up(w, numbers::cell(table, 4 * j)) + 1
-}
-
-// Their hypertasks' ticks.
-fn start_demand(table: &[u32], j: usize, w: u64) -> u64
-    requires { (Sound table.now) × (j < rows table.now) × (w ≤ 5000000) }
-    ensures { result ≡ start_demand table.now w j }
-{
-    releases(table, j, w) * numbers::cell(table, 4 * j + 3)
-}
-
-// The right side of a start's equation, with the row's own part B + (q − 1)·K as it was found.
-fn start_side(table: &[u32], i: usize, own: u64, w: u64) -> u64
-    requires { (Sound table.now) × (i < rows table.now) × (own ≤ 6000000000000) × (w ≤ 5000000) }
-    ensures { result ≡ starts_from table.now i own w }
-{
-    let mut total: u64 = own;
-    for j in 0..i {
-        total += start_demand(table, j, w);
-    }
-    total
-}
-
-// The least start below `end`: w is set to the right side until it stays or reaches `end`.
-fn seek_start(table: &[u32], i: usize, own: u64, end: u64) -> Found
-    requires { (Sound table.now) × (i < rows table.now) × (own ≤ 6000000000000) × (end ≤ 5000001) }
-    ensures { result ≡ found_of (first (starts_from table.now i own) 0 end) }
-{
-    if end == 0 {
-        return Found::Nothing;
-    }
-    let mut w: u64 = 0;
-    loop {
-        let next = start_side(table, i, own, w);
-        if next == w {
-            return Found::At(w);
-        }
-        if end <= next {
-            return Found::Nothing;
-        }
-        w = next;
-    }
-}
-
-// w(i,q) of the job with so many jobs before it: q is one more.
-fn start_after(table: &[u32], i: usize, b: u64, before: u64) -> Found
-    requires { (Sound table.now) × (i < rows table.now) × (b ≡ B table.now i) × (before * T table.now i ≤ 4000000) }
-    ensures { result ≡ found_of (start table.now i (suc before)) }
-{
-    let k = numbers::cell(table, 4 * i + 3);
-    let room = numbers::cell(table, 4 * i + 1) + before * numbers::cell(table, 4 * i) + 1;
-    seek_start(table, i, b + before * k, numbers::less(room, k))
-}
-
-// Its response, w(i,q) + K − (q − 1)·T.
-fn response_after(table: &[u32], i: usize, b: u64, before: u64) -> Found
-    requires { (Sound table.now) × (i < rows table.now) × (b ≡ B table.now i) × (before * T table.now i ≤ 4000000) }
-    ensures { result ≡ found_of (job_response table.now i (suc before)) }
-{
-    let Found::At(w) = start_after(table, i, b, before) else {
-        return Found::Nothing;
-    };
-    Found::At(numbers::less(
-        w + numbers::cell(table, 4 * i + 3),
-        before * numbers::cell(table, 4 * i),
-    ))
-}
-
-// The largest response of the first n jobs.
-fn worst_of(table: &[u32], i: usize, b: u64, n: u64) -> Found
-    requires { (Sound table.now) × (i < rows table.now) × (b ≡ B table.now i) × (n * T table.now i ≤ 4000000 + T table.now i) }
-    ensures { result ≡ found_of (worst table.now i n) }
-{
-    let mut most: u64 = 0;
-    for before in 0..n {
-        let Found::At(r) = response_after(table, i, b, before) else {
-            return Found::Nothing;
+    // w(i,q) of the job with so many jobs before it: q is one more.
+    fn start(&self, before: u64) -> Option<u64>
+        requires { before * T self.now.task.table.now self.now.task.row ≤ 4000000 }
+        ensures { result ≡ start self.now.task.table.now self.now.task.row (suc before) }
+    {
+        let equation = Start {
+            task: self.task,
+            own: self.b + before * self.task.k(),
         };
-        most = numbers::larger(most, r);
+        let room = self.task.d() + before * self.task.t() + 1;
+        least(&equation, 0, room.saturating_sub(self.task.k()))
     }
-    Found::At(most)
+
+    #[tactic(auto, using(crate::proofs::Limits::jobs))]
+    // Its response, w(i,q) + K − (q − 1)·T.
+    fn job_response(&self, before: u64) -> Option<u64>
+        requires { before * T self.now.task.table.now self.now.task.row ≤ 4000000 }
+        ensures { result ≡ job_response self.now.task.table.now self.now.task.row (suc before) }
+    {
+        let w = self.start(before)?;
+        Some((w + self.task.k()).saturating_sub(before * self.task.t()))
+    }
+
+    #[tactic(auto, using(crate::proofs::Limits::jobs), unfolding(equations::specs::Hypertask::worst))]
+    // The largest response of the first n jobs.
+    fn worst(&self, n: u64) -> Option<u64>
+        requires { n * T self.now.task.table.now self.now.task.row ≤ 4000000 + T self.now.task.table.now self.now.task.row }
+        ensures { result ≡ worst self.now.task.table.now self.now.task.row n }
+    {
+        let mut most: u64 = 0;
+        for before in 0..n {
+            most = most.max(self.job_response(before)?);
+        }
+        Some(most)
+    }
 }
 
-// R(i), or refusal 5 or 6 at its task.
-pub(crate) fn response_of(table: &[u32], i: usize) -> Result<u64, Refusal>
-    requires { (Sound table.now) × (i < rows table.now) }
-    ensures { result ≡ response table.now i }
-{
-    let b = blocking(table, i);
-    let Found::At(t) = active_period(table, i, b) else {
-        return Err(Refusal::NoActivePeriod(i + 1));
-    };
-    let jobs = numbers::rounded_up(t, numbers::cell(table, 4 * i));
-    let Found::At(r) = worst_of(table, i, b, jobs) else {
-        return Err(Refusal::StartTooLate(i + 1));
-    };
-    Ok(r)
+#[tactic(auto, using(crate::proofs::Limits::limits, crate::proofs::Rounded::div_ceil_is_up), unfolding(equations::specs::Hypertask::active_side, equations::specs::Hypertask::releases, equations::specs::Hypertask::start_demand, equations::specs::Hypertask::active_period))]
+impl<'a> Task<'a> {
+    // The sum of up(t/T)·K over the rows above.
+    fn demand_above(&self, t: u64) -> u64
+        requires { t ≤ 5000000 }
+        ensures { result ≡ sum (demand self.now.table.now t) self.now.row }
+    {
+        (0..self.row).map(|j| self.at(j).demand(t)).sum()
+    }
+
+    // B(i), the largest K among the rows below.
+    fn blocking(&self) -> u64
+        ensures { result ≡ B self.now.table.now self.now.row }
+    {
+        (self.row + 1..self.rows())
+            .map(|j| self.at(j).k())
+            .max()
+            .unwrap_or(0)
+    }
+
+    // Its releases that equation 2 counts within w.
+    fn releases(&self, w: u64) -> u64
+        requires { w ≤ 5000000 }
+        ensures { result ≡ releasesOf self.now.table.now w self.now.row }
+    {
+        w.div_ceil(self.t()) + 1
+    }
+
+    // Their hypertasks' ticks.
+    fn start_demand(&self, w: u64) -> u64
+        requires { w ≤ 5000000 }
+        ensures { result ≡ start_demand self.now.table.now w self.now.row }
+    {
+        self.releases(w) * self.k()
+    }
+
+    // The sum of these over the rows above.
+    fn start_demand_above(&self, w: u64) -> u64
+        requires { w ≤ 5000000 }
+        ensures { result ≡ sum (start_demand self.now.table.now w) self.now.row }
+    {
+        (0..self.row).map(|j| self.at(j).start_demand(w)).sum()
+    }
+
+    #[tactic(auto, using(crate::proofs::Limits::responses, crate::proofs::Rounded::div_ceil_is_up))]
+    // R(i), or refusal 5 or 6 at its task.
+    pub(crate) fn response(&self) -> Result<u64, Refusal>
+        ensures { result ≡ response self.now.table.now self.now.row }
+    {
+        let hypertask = Hypertask {
+            task: *self,
+            b: self.blocking(),
+        };
+        let t = hypertask
+            .active_period()
+            .ok_or(Refusal::NoActivePeriod(self.row + 1))?;
+        let jobs = t.div_ceil(self.t());
+        hypertask
+            .worst(jobs)
+            .ok_or(Refusal::StartTooLate(self.row + 1))
+    }
 }

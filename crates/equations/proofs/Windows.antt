@@ -24,7 +24,7 @@ use Rattle.equations.specs.Analysis.{table_check, results_check, hypertask_check
 use Rattle.equations.specs.Solutions.{WindowsReached, NoWA, NoWE, GuestWindowFails, HypertaskWindowFails}
 use Rattle.equations.specs.Answers.{Response, Answer}
 use Rattle.equations.proofs.Jobs.{guest_7, guest_19, window_same}
-use Rattle.equations.proofs.Checks.{stopped_passed, stopped_inj, table_stopped, results_fit, entered, refused_7_or_19}
+use Rattle.equations.proofs.Checks.{same_refusal, table_stopped, results_fit, entered, refused_7_or_19}
 use Rattle.equations.proofs.Checks.{Rowwise, rows_start, rows_next, rows_stop}
 use Rattle.equations.proofs.Exactly.{WA_found, WA_finds, R, G, table_sound, table_complete, hypertasks_sound, hypertasks_complete}
 use Rattle.equations.proofs.Exactly.{pass_numbers, guest_sound, guest_complete, stop_if_passed}
@@ -40,8 +40,8 @@ unfolding results_check
 results_stop s lent f e = go (ltb lent (3 * rows s)) e
   where
     go : (b : Bool) → stop_if b (Refusal.ResultsShort (3 * rows s)) (Ok tt) ≡ Err f → number_of f ≤ 4
-    go true q = rw (← stopped_inj _ _ q) (omega arith)
-    go false q = absurd (stopped_passed f (sym q))
+    go true q = rw (← same_refusal _ _ q) (omega arith)
+    go false q = cc
 
 response_stops : (s : List ℕ) (i : ℕ) (f : Refusal) → response s i ≡ Err f → number_of f ≤ 6
 response_stops s i f e = ⊎_elim
@@ -51,32 +51,32 @@ response_stops s i f e = ⊎_elim
 
 -- what the first row whose windows fail has before it
 record FromWindows (s : List ℕ) (lent : ℕ) (f : Refusal) : Type 0 where
-  shape : table_check s ≡ Ok tt
+  shape : table_check s ≡ (Ok tt)
   room : 3 * rows s ≤ lent
-  hypertasks : hypertask_check s ≡ Ok tt
+  hypertasks : hypertask_check s ≡ (Ok tt)
   first : FirstFailing (guest s) 0 (rows s) f
 
 from_windows : (s : List ℕ) (lent : ℕ) (f : Refusal) → 7 ≤ number_of f → analysis s lent ≡ Err f → FromWindows s lent f
 unfolding analysis results_check
 from_windows s lent f late e = shape (and_then_refused (table_check s) _ f e)
   where
-    windows : table_check s ≡ Ok tt → 3 * rows s ≤ lent
-        → FirstFailing (response s) 0 (rows s) f ⊎ ((hypertask_check s ≡ Ok tt) × FirstFailing (guest s) 0 (rows s) f) → FromWindows s lent f
+    windows : table_check s ≡ (Ok tt) → 3 * rows s ≤ lent
+        → FirstFailing (response s) 0 (rows s) f ⊎ ((hypertask_check s ≡ (Ok tt)) × FirstFailing (guest s) 0 (rows s) f) → FromWindows s lent f
     windows a b = ⊎_elim
         (λ (w : FirstFailing (response s) 0 (rows s) f). absurd (lt_irrefl 0 (omega (arith, response_stops s w.row f w.fails))))
-        (λ (w : (hypertask_check s ≡ Ok tt) × FirstFailing (guest s) 0 (rows s) f). record { shape = a; room = b; hypertasks = w.0; first = w.1 })
+        (λ (w : (hypertask_check s ≡ (Ok tt)) × FirstFailing (guest s) 0 (rows s) f). record { shape = a; room = b; hypertasks = w.0; first = w.1 })
 
-    room : table_check s ≡ Ok tt → (results_check s lent ≡ Err f) ⊎ ((results_check s lent ≡ Ok tt) × (solved s ≡ Err f))
+    room : table_check s ≡ (Ok tt) → (results_check s lent ≡ Err f) ⊎ ((results_check s lent ≡ (Ok tt)) × (solved s ≡ Err f))
         → FromWindows s lent f
     room a = ⊎_elim
         (λ (c : results_check s lent ≡ Err f). absurd (lt_irrefl 0 (omega (arith, results_stop s lent f c))))
-        (λ (c : (results_check s lent ≡ Ok tt) × (solved s ≡ Err f)).
+        (λ (c : (results_check s lent ≡ (Ok tt)) × (solved s ≡ Err f)).
         windows a (ltb-false _ _ (stop_if_passed (ltb lent (3 * rows s)) _ _ c.0).0) (refused_from_5 s f c.1))
 
-    shape : (table_check s ≡ Err f) ⊎ ((table_check s ≡ Ok tt) × (and_then (results_check s lent) (solved s) ≡ Err f)) → FromWindows s lent f
+    shape : (table_check s ≡ Err f) ⊎ ((table_check s ≡ (Ok tt)) × (and_then (results_check s lent) (solved s) ≡ Err f)) → FromWindows s lent f
     shape = ⊎_elim
         (λ (c : table_check s ≡ Err f). absurd (lt_irrefl 0 (omega (arith, table_stops s f c))))
-        (λ (c : (table_check s ≡ Ok tt) × (and_then (results_check s lent) (solved s) ≡ Err f)).
+        (λ (c : (table_check s ≡ (Ok tt)) × (and_then (results_check s lent) (solved s) ≡ Err f)).
         room c.0 (and_then_refused (results_check s lent) _ f c.1))
 
 reached_sound : (s : List ℕ) (lent : ℕ) (f : Refusal) (w : FromWindows s lent f) → WindowsReached s (R s) (E s) (G s) w.first.row
@@ -138,7 +138,7 @@ module _ (s : List ℕ) (r e g : ℕ → ℕ) (i : ℕ) (w : WindowsReached s r 
 
 refused_by : (a : Answer) (number place : ℕ) → says a ≡ refuses number place
     → (f : Refusal) × (a ≡ Err f) × (number_of f ≡ number) × (place_of f ≡ place)
-refused_by (Ok n) number place e = let z : ◌≡◌ {A = ℕ} 0 1 = cc in absurd (lt_irrefl 0 (omega arith))
+refused_by (Ok n) number place e = cc
 refused_by (Err f) number place e = (f, refl, cc, cc)
 
 -- both are at the task of the row whose windows they are about

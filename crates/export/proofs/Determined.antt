@@ -4,9 +4,10 @@ use mathlib.Core.Path.{◌≡◌, sym, ◌∙◌}
 use mathlib.Core.Bool.{Bool}
 use mathlib.Core.List.{List}
 use Prim.Native.Nat.{ℕ}
+use Rattle.std.specs.Prelude.{Option}
+use Rattle.machine.specs.declared.Machine.{Machine}
 use Rattle.machine.specs.declared.Mark.{Mark}
 use Rattle.machine.specs.declared.Ran.{Ran}
-use Rattle.export.specs.declared.state.Reading.{Reading}
 use Rattle.export.specs.Files.{ChecksFile, ReadsTable, ReadsScript, WritesFile}
 use Rattle.export.specs.Numbers.{AnalysesTable}
 use Rattle.export.specs.Start.{StartsMachine}
@@ -68,7 +69,7 @@ tollsalmon_report_determined file lent a b x y p q = (p.answers ∙ sym q.answer
 
 -- ## The functions for crates above
 
-pub read_determined : (state : List ℕ) (a b : Reading) → a ≡ read_of state → b ≡ read_of state → a ≡ b
+pub read_determined : (state : List ℕ) (a b : Option Machine) → a ≡ read_of state → b ≡ read_of state → a ≡ b
 read_determined state a b p q = p ∙ sym q
 
 pub who_of_determined : (r : Ran) (a b : ℕ) → a ≡ who_of r → b ≡ who_of r → a ≡ b

@@ -1,132 +1,147 @@
--- Each way out of a start, of a run of ticks and of one tick.
+-- Each way out of a run of ticks and of one tick, and what they are told as.
 -- Assumes nothing.
 use mathlib.Core.Path.{◌≡◌, refl, sym, ap, ◌∙◌}
-use mathlib.Core.Bool.{Bool, true, false}
+use mathlib.Core.Bool.{Bool, true, false, cond}
 use mathlib.Core.List.{List, ◌++◌}
-use Rattle.std.specs.Prelude.{Option, None, Some, Ok, Err}
 use Prim.Native.Nat.{ℕ, ◌*◌, ◌/◌, ◌≤◌, ◌<◌, min}
-use borrow.Author.Tests.{lt-ltb, le-ltb, ne_eqb}
+use native.Mathlib.Omega.{arith}
+use borrow.Author.Tests.{lt-ltb, le-ltb, eq-eqb, ne_eqb}
 use lib.Dec.{eqb}
-use lib.ListN.{length, drop}
+use lib.ListN.{length, take, drop, take-append-drop}
+use Rattle.std.specs.Prelude.{Option, Result, None, Some, Ok, Err}
+use Rattle.std.specs.Option.{ok_or}
+use Rattle.std.specs.Result.{IsErrAnd}
+use Rattle.std.proofs.lemmas.Result.{err_from_is_err_and}
+use Rattle.std.specs.Array.{IsFirstChunk}
 use Rattle.least.specs.Lists.{flat}
-use Rattle.refusals.specs.Refusals.{number_of, place_of}
 use Rattle.refusals.specs.declared.Refusal.{Refusal}
 use Rattle.refusals.specs.declared.Refusal.TheVariants.{NotWellFormed, RecordBytes, OutputShort}
-use Rattle.start.specs.Start.{start_of}
-use Rattle.start.specs.declared.Started.{Started}
 use Rattle.machine.specs.TickRule.{step_of}
 use Rattle.machine.specs.declared.Taken.{Taken}
 use Rattle.machine.specs.Answers.{Answer}
 use Rattle.machine.specs.declared.Machine.{Machine}
 use Rattle.machine.specs.declared.Stepped.{Stepped}
+use Rattle.plan.specs.Answers.{Answer as Answered, Writing}
+use Rattle.plan.specs.Refuse.{answer_of}
+use Rattle.plan.specs.Writer.{writing_of}
 use Rattle.export.specs.Files.{refusal_number, refusal_place}
 use Rattle.export.specs.Numbers.{number_in, place_in}
-use Rattle.export.specs.Start.{start_says, state_started, StartsMachine}
+use Rattle.export.specs.Inside.{RunsTicks, TakesStep}
 use Rattle.export.specs.State.{state_of, machine_in, readable, read_of}
-use Rattle.export.specs.Step.{step_in, refusal_in, step_refusal, state_stepped, answer_stepped, StepsMachine}
-use Rattle.export.specs.Ticks.{answer_bytes, machine_after, answer_to, ticks_refusal, ticks_taken, state_after, answers_after, TakesTicks}
-use Rattle.export.specs.declared.state.Reading.{Reading}
+use Rattle.export.specs.Step.{step_in, refusal_in, step_refusal, state_stepped, answer_stepped}
+use Rattle.export.specs.Ticks.{answer_bytes, machine_after, answer_to, ticks_refusal, ticks_taken, state_after, answers_after}
+use Rattle.export.proofs.States.{too_few, read_none, read_some, read_front}
 
--- ## A start
+-- ## A `?`
 
-pub start_short : (t s : List ℕ) → length s < 258 → StartsMachine t s 18 258 s
-unfolding start_says state_started
-start_short t s h = record { answers = rw (lt-ltb _ _ h); places = rw (lt-ltb _ _ h); leaves = rw (lt-ltb _ _ h) }
+pub missing : {A B : Type 0} (o : Option A) (r : Result B Refusal) (d e : Refusal) → Err d ≡ ok_or o e → IsErrAnd r (λ x. x ≡ d)
+    → (o ≡ None) × (r ≡ Err e)
+missing None r d e h i = let p = err_from_is_err_and r i in (refl, cc)
+missing (Some a) r d e h i = absurd cc
 
-says : (t : List ℕ) (n : ℕ) (x : Started) → 258 ≤ n → x ≡ start_of t → x.answer ≡ start_says t n
-unfolding start_says start_of
-says t n x h e = ap (λ (y : Started). y.answer) e ∙ rw (le-ltb _ _ h)
+pub there : {A : Type 0} (o : Option A) (a : A) (e : Refusal) → Ok a ≡ ok_or o e → o ≡ Some a
+there None a e h = absurd cc
+there (Some b) a e h = cc
 
-pub start_done : (t s after : List ℕ) (x : Started) (r p : ℕ) → 258 ≤ length s → x ≡ start_of t → r ≡ number_in x.answer
-    → p ≡ place_in x.answer
-    → after ≡ state_of x.machine ++ drop 258 s
-    → StartsMachine t s r p after
-unfolding state_started
-start_done t s after x r p h e hr hp ha =
-    record {
-      answers = hr ∙ ap number_in (says t (length s) x h e);
-      places = hp ∙ ap place_in (says t (length s) x h e);
-      leaves = ha ∙ ap (λ (y : Started). state_of y.machine ++ drop 258 s) e ∙ rw (le-ltb _ _ h);
-    }
+-- ## What is read
 
--- ## Ticks
+-- the numbers f in front of the lent ones
+module _ (s f : List ℕ) (p : IsFirstChunk s f 258) where
+  back : f ++ drop 258 s ≡ s
+  back = ap (λ (l : List ℕ). l ++ drop 258 s) p.same ∙ take-append-drop 258 s
 
-pub read_says : (s : List ℕ) (x : Reading) (b : Bool) → x ≡ read_of s → x.ok ≡ b → readable s ≡ b
-unfolding read_of
-read_says s x b e h = sym (ap (λ (y : Reading). y.ok) e) ∙ h
+  front_false : read_of f ≡ None → readable s ≡ false
+  front_false e = read_none s (sym (read_front s f p.enough p.same) ∙ e)
 
-pub read_machine : (s : List ℕ) (x : Reading) → x ≡ read_of s → readable s ≡ true → x.machine ≡ machine_in s
-unfolding read_of
-read_machine s x e h = ap (λ (y : Reading). y.machine) e ∙ rw h
+  front_true : (m : Machine) → read_of f ≡ Some m → (readable s ≡ true) × (m ≡ machine_in s)
+  front_true m e = read_some s m (sym (read_front s f p.enough p.same) ∙ e)
 
--- what was left after n ticks, where n is how many are taken
-ticks_left : (s records lent after out : List ℕ) (answer place n : ℕ) → answer ≡ refusal_number (ticks_refusal s)
-    → place ≡ refusal_place (ticks_refusal s) n → n ≡ ticks_taken s (length records) (length lent) → after ≡ state_after s records n
-    → out ≡ answers_after s records lent n
-    → TakesTicks s records lent answer place after out
-ticks_left s records lent after out answer place n hr hp e ha ho =
-    record {
-      answers = hr;
-      places = hp ∙ ap (refusal_place (ticks_refusal s)) e;
-      leaves = ha ∙ ap (state_after s records) e;
-      writes = ho ∙ ap (answers_after s records lent) e;
-    }
+-- ## A run of ticks
 
-pub ticks_unread : (s records lent : List ℕ) → readable s ≡ false → TakesTicks s records lent 8 0 s lent
-unfolding ticks_taken flat
-ticks_unread s records lent h = ticks_left s records lent s lent 8 0 0 (rw h) (rw h) (rw h) refl refl
+module _ (s records lent : List ℕ) where
+  unread : readable s ≡ false → RunsTicks s records lent (Err (NotWellFormed 0)) s lent
+  unfolding ticks_taken flat
+  unread h = record { answers = rw h; leaves = rw h; writes = rw h }
 
-pub ticks_none : (s records lent : List ℕ) (n : ℕ) → readable s ≡ true → n ≡ min (length records / 8) (length lent / 12) → n ≡ 0
-    → TakesTicks s records lent 0 n s lent
-unfolding ticks_taken flat
-ticks_none s records lent n h e z = ticks_left s records lent s lent 0 n 0 (rw h) (rw h z) (rw h (sym z ∙ e)) refl refl
+  pub run_short : length s < 258 → RunsTicks s records lent (Err (NotWellFormed 0)) s lent
+  run_short h = unread (too_few s h)
 
-pub ticks_taken_lem : (s records lent after out : List ℕ) (n : ℕ) (m last : Machine) → readable s ≡ true
-    → n ≡ min (length records / 8) (length lent / 12) → (n ≡ 0 → ⊥)
-    → m ≡ machine_in s → last ≡ machine_after m records n → after ≡ state_of last ++ drop 258 s
-    → out ≡ flat (answer_to m records) n ++ drop (12 * n) lent
-    → TakesTicks s records lent 0 n after out
-unfolding ticks_taken
-ticks_taken_lem s records lent after out n m last h e z hm hl ha ho =
-    ticks_left s records lent after out 0 n n (rw h) (rw h) (rw h e) (ha ∙ rw (ne_eqb _ _ z, hl, hm)) (ho ∙ rw hm)
+  pub run_unread : (f : List ℕ) → IsFirstChunk s f 258 → read_of f ≡ None → RunsTicks s records lent (Err (NotWellFormed 0)) (f ++ drop 258 s) lent
+  run_unread f p e = rw (back s f p) (unread (front_false s f p e))
+
+  pub run_none : (f : List ℕ) (m : Machine) (n : ℕ) → IsFirstChunk s f 258 → read_of f ≡ Some m → n ≡ min (length records / 8) (length lent / 12)
+      → n ≡ 0 → RunsTicks s records lent (Ok n) (f ++ drop 258 s) lent
+  unfolding ticks_taken flat
+  run_none f m n p e q z =
+      let t : min (length records / 8) (length lent / 12) ≡ 0 = sym q ∙ z in
+      let h = (front_true s f p m e).0 in
+      rw (back s f p) (record { answers = rw (h, z, t); leaves = rw (h, t); writes = rw (h, t) })
+
+  pub run_taken : (f left out : List ℕ) (m last : Machine) (n : ℕ) → IsFirstChunk s f 258 → read_of f ≡ Some m
+      → n ≡ min (length records / 8) (length lent / 12)
+      → 0 < n → last ≡ machine_after m records n → left ≡ state_of last
+      → out ≡ flat (answer_to m records) n ++ drop (12 * n) lent → RunsTicks s records lent (Ok n) (left ++ drop 258 s) out
+  unfolding ticks_taken
+  run_taken f left out m last n p e q g hl ha ho =
+      let h = front_true s f p m e in
+      let z : n ≡ 0 → ⊥ = λ y. omega arith in
+      record {
+        answers = rw (h.0, q);
+        leaves = rw (h.0, ← q, ne_eqb n 0 z, ha, hl, h.1);
+        writes = ho ∙ rw (h.0, ← q, h.1);
+      }
 
 -- ## One tick
 
 module _ (s : List ℕ) (mask signal early : ℕ) (lent : List ℕ) where
   -- the refusal says the rest
-  step_left : (answer place : ℕ) (after out : List ℕ) (o : Option Refusal) → step_refusal s mask signal early (length lent) ≡ o
-      → answer ≡ refusal_number o → place ≡ refusal_place o 0 → after ≡ state_stepped o (step_in s mask signal early) s
+  step_left : (answer : Answered) (after out : List ℕ) (o : Option Refusal) → step_refusal s mask signal early (length lent) ≡ o
+      → answer ≡ answer_of o → after ≡ state_stepped o (step_in s mask signal early) s
       → out ≡ answer_stepped o (machine_in s).clock (step_in s mask signal early) lent
-      → StepsMachine s mask signal early lent answer place after out
-  step_left answer place after out o e hr hp ha ho = record { answers = rw e hr; places = rw e hp; leaves = rw e ha; writes = rw e ho }
+      → TakesStep s mask signal early lent answer after out
+  step_left answer after out o e hr ha ho = record { answers = rw e hr; leaves = rw e ha; writes = rw e ho }
 
-  pub step_early : 1 < early → StepsMachine s mask signal early lent 17 0 s lent
+  pub step_early : 1 < early → TakesStep s mask signal early lent (Err (RecordBytes 0)) s lent
   unfolding step_refusal
-  step_early h = step_left 17 0 s lent (Some (RecordBytes 0)) (rw (lt-ltb _ _ h)) refl refl refl refl
+  step_early h = step_left (Err (RecordBytes 0)) s lent (Some (RecordBytes 0)) (rw (lt-ltb _ _ h)) refl refl refl
 
-  pub step_short : early ≤ 1 → length lent < 12 → StepsMachine s mask signal early lent 18 12 s lent
+  pub step_short : early ≤ 1 → length lent < 12 → TakesStep s mask signal early lent (Err (OutputShort 12)) s lent
   unfolding step_refusal
-  step_short h l = step_left 18 12 s lent (Some (OutputShort 12)) (rw (le-ltb _ _ h, lt-ltb _ _ l)) refl refl refl refl
+  step_short h l = step_left (Err (OutputShort 12)) s lent (Some (OutputShort 12)) (rw (le-ltb _ _ h, lt-ltb _ _ l)) refl refl refl
 
-  pub step_unread : early ≤ 1 → 12 ≤ length lent → readable s ≡ false → StepsMachine s mask signal early lent 8 0 s lent
+  unread_step : early ≤ 1 → 12 ≤ length lent → readable s ≡ false → TakesStep s mask signal early lent (Err (NotWellFormed 0)) s lent
   unfolding step_refusal
-  step_unread h l u = step_left 8 0 s lent (Some (NotWellFormed 0)) (rw (le-ltb _ _ h, le-ltb _ _ l, u)) refl refl refl refl
+  unread_step h l u = step_left (Err (NotWellFormed 0)) s lent (Some (NotWellFormed 0)) (rw (le-ltb _ _ h, le-ltb _ _ l, u)) refl refl refl
 
-  -- the tick rule's own refusal
-  rule_says : (m : Machine) (x : Stepped) (a : Answer) → early ≤ 1 → 12 ≤ length lent → readable s ≡ true → m ≡ machine_in s
-      → x ≡ step_of m mask signal (eqb early 1) → x.answer ≡ a → step_refusal s mask signal early (length lent) ≡ refusal_in a
-  unfolding step_refusal
-  rule_says m x a h l u hm hx ha = rw (le-ltb _ _ h, le-ltb _ _ l, u, ← hm, ← hx, ha)
+  -- the bytes g in front of the lent ones
+  module _ (h : early ≤ 1) (g : List ℕ) (q : IsFirstChunk lent g 12) where
+    whole : g ++ drop 12 lent ≡ lent
+    whole = ap (λ (l : List ℕ). l ++ drop 12 lent) q.same ∙ take-append-drop 12 lent
 
-  pub step_refused : (m : Machine) (x : Stepped) (r : Refusal) (answer place : ℕ) → early ≤ 1 → 12 ≤ length lent → readable s ≡ true
-      → m ≡ machine_in s → x ≡ step_of m mask signal (eqb early 1) → x.answer ≡ Err r → answer ≡ number_of r → place ≡ place_of r
-      → StepsMachine s mask signal early lent answer place s lent
-  step_refused m x r answer place h l u hm hx ha hr hp =
-      step_left answer place s lent (Some r) (rule_says m x (Err r) h l u hm hx ha) hr hp refl refl
+    pub step_few : length s < 258 → TakesStep s mask signal early lent (Err (NotWellFormed 0)) s (g ++ drop 12 lent)
+    step_few b = rw whole (unread_step h q.enough (too_few s b))
 
-  pub step_taken : (m : Machine) (x : Stepped) (t : Taken) (after out : List ℕ) → early ≤ 1 → 12 ≤ length lent → readable s ≡ true
-      → m ≡ machine_in s → x ≡ step_of m mask signal (eqb early 1) → x.answer ≡ Ok t → after ≡ state_of x.machine ++ drop 258 s
-      → out ≡ answer_bytes m.clock x.answer ++ drop 12 lent
-      → StepsMachine s mask signal early lent 0 0 after out
-  step_taken m x t after out h l u hm hx ha hs ho =
-      step_left 0 0 after out None (rule_says m x (Ok t) h l u hm hx ha) refl refl (hs ∙ rw (hx, hm)) (ho ∙ rw (hx, hm))
+    module _ (f : List ℕ) (p : IsFirstChunk s f 258) where
+      pub step_unread : read_of f ≡ None → TakesStep s mask signal early lent (Err (NotWellFormed 0)) (f ++ drop 258 s) (g ++ drop 12 lent)
+      step_unread e = rw (back s f p, whole) (unread_step h q.enough (front_false s f p e))
+
+      -- the tick rule's own refusal
+      rule_says : (m : Machine) (x : Stepped) (a : Answer) → read_of f ≡ Some m → x ≡ step_of m mask signal (eqb early 1) → x.answer ≡ a
+          → step_refusal s mask signal early (length lent) ≡ refusal_in a
+      unfolding step_refusal
+      rule_says m x a e hx ha =
+          let r = front_true s f p m e in
+          rw (le-ltb _ _ h, le-ltb _ _ q.enough, r.0, ← r.1, ← hx, ha)
+
+      pub step_refused : (m : Machine) (x : Stepped) (r : Refusal) → read_of f ≡ Some m → x ≡ step_of m mask signal (eqb early 1)
+          → x.answer ≡ Err r → TakesStep s mask signal early lent (Err r) (f ++ drop 258 s) (g ++ drop 12 lent)
+      step_refused m x r e hx ha =
+          rw (back s f p, whole) (step_left (Err r) s lent (Some r) (rule_says m x (Err r) e hx ha) refl refl refl)
+
+      pub step_taken : (m : Machine) (x : Stepped) (t : Taken) (left out : List ℕ) → read_of f ≡ Some m → x ≡ step_of m mask signal (eqb early 1)
+          → x.answer ≡ Ok t → left ≡ state_of x.machine → out ≡ answer_bytes m.clock (Ok t)
+          → TakesStep s mask signal early lent (Ok tt) (left ++ drop 258 s) (out ++ drop 12 lent)
+      step_taken m x t left out e hx ha hl ho =
+          let r = front_true s f p m e in
+          let o : out ≡ answer_bytes m.clock x.answer = ho ∙ ap (answer_bytes m.clock) (sym ha) in
+          step_left (Ok tt) (left ++ drop 258 s) (out ++ drop 12 lent) None (rule_says m x (Ok t) e hx ha) refl (rw (hl, hx, r.1)) (rw (o, hx, r.1))

@@ -2,65 +2,60 @@
 -- Assumes nothing.
 use mathlib.Core.Path.{◌≡◌, refl, sym, ap, ◌∙◌}
 use mathlib.Core.Bool.{Bool, true, false, cond, true≢false}
-use mathlib.Core.List.{List, [], ◌∷◌, ◌++◌, append-nil}
+use mathlib.Core.List.{List, [], ◌∷◌, ◌++◌, append-nil, append_assoc}
 use Rattle.std.specs.Prelude.{Option, None, Some}
-use Prim.Native.Nat.{ℕ, suc, ◌+◌, ◌-◌, ◌*◌, ◌≤◌, ◌<◌}
-use native.Mathlib.Nat.{lt_irrefl}
+use Prim.Native.Nat.{ℕ, zero, suc, ◌+◌, ◌-◌, ◌*◌, ◌/◌, ◌≤◌, ◌<◌}
+use native.Mathlib.Nat.{lt_irrefl, mul-zero, mul-suc}
 use native.Mathlib.Omega.{arith}
+use borrow.Author.Count.{below_more}
 use borrow.Author.Tests.{lt-ltb, le-ltb, ltb-false, leb-false}
+use borrow.Rule.Slice.PartMut.{mid_of, put_mid}
 use lib.Dec.{leb, ltb}
-use lib.ListN.{length, get_or, set, take, drop, replicate, length-set}
-use lib.Seq.{sets-eq}
+use lib.ListN.{length, get_or, set, take, drop, replicate, length-drop, drop_of_length-le}
+use lib.Seq.{length-take-le, get_or-drop, get_or-take, drop-drop}
+use Rattle.std.specs.Simd.{first_chunks}
 use Rattle.least.specs.Search.{first_where}
 use Rattle.least.specs.Lists.{list_of, flat}
-use Rattle.least.proofs.Where.{where_none}
-use Rattle.machine.specs.Rows.{no_row, map_from}
-use Rattle.machine.specs.Fresh.{fresh_rows, fresh_at}
-use Rattle.machine.specs.declared.Stage.{Stage}
+use Rattle.least.proofs.Lists.{block_after, fill_more}
+use Rattle.least.proofs.Where.{where_none, where_finds, where_all}
+use Rattle.machine.specs.Rows.{no_row}
 use Rattle.machine.specs.declared.Row.{Row}
 use Rattle.machine.specs.declared.Machine.{Machine}
 use Rattle.plan.proofs.Tests.{or_inv}
-use Rattle.export.specs.declared.state.Head.{Head}
-use Rattle.export.specs.State.{place_numbers, state_of, stage_in, number_in, row_in, machine_in, stray, unreadable, is_none, readable, head_of, read_of}
+use Rattle.export.specs.Inside.{row_told}
+use Rattle.export.specs.State.{row_numbers, place_numbers, state_of, number_in, row_in, machine_in, stray, unreadable, is_none, readable, read_of}
 
 -- ## To numbers
 
--- eight stores in a row
-pub set_eight : (o : List ℕ) (at a b c d e f g h : ℕ) → at + 8 ≤ length o
-    → set (set (set (set (set (set (set (set o at a) (at + 1) b) (at + 2) c) (at + 3) d) (at + 4) e) (at + 5) f) (at + 6) g) (at + 7) h
-    ≡ take at o ++ (a ∷ b ∷ c ∷ d ∷ e ∷ f ∷ g ∷ h ∷ []) ++ drop (at + 8) o
-set_eight o at a b c d e f g h l =
-    let n1 : at + 1 ≡ suc at = omega arith in
-    let n2 : at + 2 ≡ suc (suc at) = omega arith in
-    let n3 : at + 3 ≡ suc (suc (suc at)) = omega arith in
-    let n4 : at + 4 ≡ suc (suc (suc (suc at))) = omega arith in
-    let n5 : at + 5 ≡ suc (suc (suc (suc (suc at)))) = omega arith in
-    let n6 : at + 6 ≡ suc (suc (suc (suc (suc (suc at))))) = omega arith in
-    let n7 : at + 7 ≡ suc (suc (suc (suc (suc (suc (suc at)))))) = omega arith in
-    rw (n1, n2, n3, n4, n5, n6, n7) (sets-eq (a ∷ b ∷ c ∷ d ∷ e ∷ f ∷ g ∷ h ∷ []) o at l)
-
-pub length_eight : (o : List ℕ) (at a b c d e f g h : ℕ)
-    → length (set (set (set (set (set (set (set (set o at a) (at + 1) b) (at + 2) c) (at + 3) d) (at + 4) e) (at + 5) f) (at + 6) g) (at + 7) h) ≡ length o
-length_eight o at a b c d e f g h = simp length-set
-
-pub length_two : (o : List ℕ) (a b : ℕ) → length (set (set o 0 a) 1 b) ≡ length o
-length_two o a b = simp length-set
-
--- no row written yet
-pub rows_none : (f : ℕ → List ℕ) (s : List ℕ) → 258 ≤ length s → s ≡ take 2 s ++ flat f 0 ++ drop (2 + 8 * 0) s
+-- the count and the clock, and no row written yet
+pub rows_none : (s : List ℕ) (m : Machine) → length s ≡ 258
+    → set (set s 0 m.count) 1 m.clock ≡ (m.count ∷ m.clock ∷ []) ++ flat (place_numbers m.rows) 0 ++ drop (2 + 8 * 0) s
 unfolding flat
-rows_none f [] h = absurd (lt_irrefl 0 (omega arith))
-rows_none f (x ∷ []) h = absurd (lt_irrefl 0 (omega arith))
-rows_none f (x ∷ y ∷ s) h = refl
+rows_none [] m h = absurd (lt_irrefl 0 (omega arith))
+rows_none (x ∷ []) m h = absurd (lt_irrefl 0 (omega arith))
+rows_none (x ∷ y ∷ s) m h = refl
 
--- the count and the clock before the rows
-pub put_all : (s : List ℕ) (m : Machine) → 258 ≤ length s
-    → take 2 (set (set s 0 m.count) 1 m.clock) ++ flat (place_numbers m.rows) 32 ++ drop 258 (set (set s 0 m.count) 1 m.clock)
-    ≡ state_of m ++ drop 258 s
+-- one row more
+pub row_more : (m : Machine) (s out row : List ℕ) (i : ℕ) → row ≡ place_numbers m.rows i
+    → out ≡ (m.count ∷ m.clock ∷ []) ++ flat (place_numbers m.rows) i ++ drop (2 + 8 * i) s
+    → put_mid (2 + 8 * i) (2 + 8 * i + 8 - (2 + 8 * i)) out row
+    ≡ (m.count ∷ m.clock ∷ []) ++ flat (place_numbers m.rows) (i + 1) ++ drop (2 + 8 * (i + 1)) s
+row_more m s out row i r e =
+    let w : 2 + 8 * i + 8 - (2 + 8 * i) ≡ 8 = omega arith in
+    ap (λ (n : ℕ). take (2 + 8 * i) out ++ (row ++ drop n (drop (2 + 8 * i) out))) w
+    ∙ ap (λ (l : List ℕ). take (2 + 8 * i) out ++ (l ++ drop 8 (drop (2 + 8 * i) out))) r
+    ∙ ap (λ (l : List ℕ). take (2 + 8 * i) out ++ (place_numbers m.rows i ++ l)) (drop-drop 8 (2 + 8 * i) out)
+    ∙ sym (append_assoc (take (2 + 8 * i) out) (place_numbers m.rows i) (drop (2 + 8 * i + 8) out))
+    ∙ block_after (m.count ∷ m.clock ∷ []) 2 refl (place_numbers m.rows) 8 (λ k. refl) s out i e
+
+pub rows_all : (m : Machine) (s out : List ℕ) (i : ℕ) → length s ≡ 258 → i ≡ 32
+    → out ≡ (m.count ∷ m.clock ∷ []) ++ flat (place_numbers m.rows) i ++ drop (2 + 8 * i) s → out ≡ state_of m
 unfolding state_of
-put_all [] m h = absurd (lt_irrefl 0 (omega arith))
-put_all (x ∷ []) m h = absurd (lt_irrefl 0 (omega arith))
-put_all (x ∷ y ∷ s) m h = refl
+rows_all m s out i h z e =
+    e
+    ∙ ap (λ (n : ℕ). (m.count ∷ m.clock ∷ []) ++ flat (place_numbers m.rows) n ++ drop (2 + 8 * n) s) z
+    ∙ ap (λ (l : List ℕ). (m.count ∷ m.clock ∷ []) ++ flat (place_numbers m.rows) 32 ++ l) (drop_of_length-le s {i = 2 + 8 * 32} (omega arith))
+    ∙ ap (λ (l : List ℕ). (m.count ∷ m.clock ∷ []) ++ l) (append-nil (flat (place_numbers m.rows) 32))
 
 -- ## From numbers
 
@@ -93,13 +88,9 @@ fields l i h =
       none_stray = f.1;
     }
 
-pub too_few : (l : List ℕ) → length l < 258 → false ≡ readable l
+pub too_few : (l : List ℕ) → length l < 258 → readable l ≡ false
 unfolding readable
 too_few l h = rw (lt-ltb _ _ h)
-
-pub one_unreadable : (l : List ℕ) (k : ℕ) → 258 ≤ length l → first_where (unreadable l) 0 32 ≡ Some k → false ≡ readable l
-unfolding readable
-one_unreadable l k h e = rw (le-ltb _ _ h, e)
 
 pub all_readable : (l : List ℕ) → 258 ≤ length l → first_where (unreadable l) 0 32 ≡ None → true ≡ readable l
 unfolding readable
@@ -121,57 +112,158 @@ can_read l e = go (ltb (length l) 258) refl (first_where (unreadable l) 0 32) re
         record { long = ltb-false (length l) 258 p; places = λ i h. where_none (unreadable l) 32 0 q i (omega arith) (omega arith) }
     go false p (Some k) q e = absurd (true≢false (sym e))
 
--- a row from its eight numbers
-pub row_is : (l : List ℕ) (i a b c d e x y z : ℕ) (s : Stage) → x ≡ number_in l i 5 → y ≡ number_in l i 6 → z ≡ number_in l i 7
-    → s ≡ stage_in x y z
-    → a ≡ number_in l i 0 → b ≡ number_in l i 1 → c ≡ number_in l i 2 → d ≡ number_in l i 3 → e ≡ number_in l i 4
-    → record { t = a; d = b; c = c; k = d; e = e; stage = s } ≡ row_in l i
-unfolding row_in
-row_is l i a b c d e x y z s hx hy hz hs ha hb hc hd he = rw (hs, hx, hy, hz, ha, hb, hc, hd, he)
+one_unreadable : (l : List ℕ) (k : ℕ) → 258 ≤ length l → first_where (unreadable l) 0 32 ≡ Some k → readable l ≡ false
+unfolding readable
+one_unreadable l k h e = rw (le-ltb _ _ h, e)
 
--- all places filled
-pub places_all : (l : List ℕ) (rows : List Row) (i : ℕ) → i ≡ 32 → rows ≡ list_of (row_in l) i ++ replicate (32 - i) no_row
-    → rows ≡ list_of (row_in l) 32
-places_all l rows i h e =
-    e ∙ ap (λ (x : ℕ). list_of (row_in l) x ++ replicate (32 - x) no_row) h ∙ append-nil (list_of (row_in l) 32)
+-- ## A place by itself
 
--- ## Read or not
+some_not : {A : Type 0} (a : A) → Some a ≡ None → ⊥
+some_not a e = cc
 
-pub head_ok : (l : List ℕ) → readable l ≡ true → record { ok = true; places = 32; count = get_or l 0 0; clock = get_or l 1 0 } ≡ head_of l
-unfolding head_of
-head_ok l h = rw h
+some_same : {A : Type 0} (a b : A) → Some a ≡ Some b → a ≡ b
+some_same a b e = cc
 
-pub head_not : (l : List ℕ) → readable l ≡ false → record { ok = false; places = 0; count = 0; clock = 0 } ≡ head_of l
-unfolding head_of
-head_not l h = rw h
+-- places with the same eight numbers
+same_place : (l m : List ℕ) (i j : ℕ) → ((k : ℕ) → k < 8 → number_in l i k ≡ number_in m j k)
+    → (unreadable l i ≡ unreadable m j) × (row_in l i ≡ row_in m j)
+unfolding unreadable row_in
+same_place l m i j h =
+    rw (
+      h 0 (omega arith),
+      h 1 (omega arith),
+      h 2 (omega arith),
+      h 3 (omega arith),
+      h 4 (omega arith),
+      h 5 (omega arith),
+      h 6 (omega arith),
+      h 7 (omega arith),
+    )
+    (refl, refl)
 
--- a place is read where all can be
-pub place_read : (l : List ℕ) (i : ℕ) → i < (head_of l).places → readable l ≡ true
-unfolding head_of
-place_read l i h = go (readable l) refl h
+-- chunk i of n numbers
+chunk_at : (n k i : ℕ) (l : List ℕ) → i < k → get_or (first_chunks n k l) i [] ≡ take n (drop (n * i) l)
+chunk_at n zero i l h = absurd (lt_irrefl 0 (omega arith))
+chunk_at n (suc k) zero l h = rw (mul-zero n)
+chunk_at n (suc k) (suc i) l h =
+    let e : n + n * i ≡ n * suc i = omega (arith, mul-suc n i) in
+    chunk_at n k i (drop n l) (omega arith) ∙ ap (take n) (drop-drop (n * i) n l) ∙ ap (λ (x : ℕ). take n (drop x l)) e
+
+-- place i of 258 numbers, as the code takes it out of them
+place_number : (l : List ℕ) (p : List (List ℕ)) (i k : ℕ) → length l ≡ 258 → i < 32 → k < 8
+    → p ≡ first_chunks 8 (length (mid_of 2 256 l) / 8) (mid_of 2 256 l)
+    → number_in (0 ∷ 0 ∷ get_or p i []) 0 k ≡ number_in l i k
+place_number l p i k h a b e =
+    let m : List ℕ = mid_of 2 256 l in
+    let z : 2 + 8 * 0 + k ≡ suc (suc k) = omega arith in
+    let y : 2 + (8 * i + k) ≡ 2 + 8 * i + k = omega arith in
+    let long : length m / 8 ≡ 32 = omega (arith, length-take-le 256 (drop 2 l) (omega (arith, length-drop 2 l))) in
+    ap (λ (x : ℕ). get_or (0 ∷ 0 ∷ get_or p i []) x 0) z
+    ∙ ap (λ (q : List (List ℕ)). get_or (get_or q i []) k 0) e
+    ∙ ap (λ (q : List ℕ). get_or q k 0) (chunk_at 8 (length m / 8) i m (omega (arith, long)))
+    ∙ get_or-take 8 (drop (8 * i) m) k 0 b
+    ∙ get_or-drop (8 * i) m k 0
+    ∙ get_or-take 256 (drop 2 l) (8 * i + k) 0 (omega arith)
+    ∙ get_or-drop 2 l (8 * i + k) 0
+    ∙ ap (λ (x : ℕ). get_or l x 0) y
+
+pub place_told : (l : List ℕ) (p : List (List ℕ)) (i : ℕ) → length l ≡ 258 → i < 32
+    → p ≡ first_chunks 8 (length (mid_of 2 256 l) / 8) (mid_of 2 256 l)
+    → row_told (get_or p i []) ≡ cond (unreadable l i) None (Some (row_in l i))
+place_told l p i h a e =
+    let s = same_place (0 ∷ 0 ∷ get_or p i []) l 0 i (λ k b. place_number l p i k h a b e) in
+    rw (s.0, s.1)
+
+-- ## All of it
+
+-- what was read of the places before i
+pub record Before (l : List ℕ) (i : ℕ) (rows : List Row) : Type 0 where
+  pub filled : rows ≡ list_of (row_in l) i ++ replicate (32 - i) no_row
+  pub passed : (k : ℕ) → k < i → unreadable l k ≡ false
+
+pub before_none : (l : List ℕ) (r : Row) → r ≡ no_row → Before l 0 (replicate 32 r)
+unfolding list_of
+before_none l r e = record { filled = ap (replicate 32) e; passed = λ k h. absurd (lt_irrefl 0 (omega arith)) }
+
+pub before_more : (l : List ℕ) (i : ℕ) (rows : List Row) (r : Row) → i < 32 → Before l i rows
+    → Some r ≡ cond (unreadable l i) None (Some (row_in l i)) → Before l (i + 1) (set rows i r)
+before_more l i rows r h b e = go (unreadable l i) refl e
   where
-    go : (b : Bool) → readable l ≡ b → i < cond b 32 0 → readable l ≡ true
-    go true e q = e
-    go false e q = absurd (omega arith)
+    go : (t : Bool) → unreadable l i ≡ t → Some r ≡ cond t None (Some (row_in l i)) → Before l (i + 1) (set rows i r)
+    go true p q = absurd (some_not r q)
+    go false p q =
+        record {
+          filled = ap (λ (x : List Row). set x i r) b.filled
+              ∙ ap (λ (x : Row). set (list_of (row_in l) i ++ replicate (32 - i) no_row) i x) (some_same r (row_in l i) q)
+              ∙ fill_more (row_in l) no_row 32 i h;
+          passed = below_more (λ (k : ℕ). unreadable l k ≡ false) i b.passed p;
+        }
 
-pub places_most : (l : List ℕ) → (head_of l).places ≤ 32
-unfolding head_of
-places_most l = go (readable l)
+pub read_not : (l : List ℕ) (i : ℕ) (rows : List Row) → i < 32 → 258 ≤ length l → Before l i rows
+    → None ≡ cond (unreadable l i) None (Some (row_in l i)) → None ≡ read_of l
+unfolding read_of
+read_not l i rows h g b e = go (unreadable l i) refl e
   where
-    go : (b : Bool) → cond b 32 0 ≤ 32
-    go true = omega arith
-    go false = omega arith
+    go : (t : Bool) → unreadable l i ≡ t → None ≡ cond t None (Some (row_in l i)) → None ≡ cond (readable l) (Some (machine_in l)) None
+    go true p q = rw (one_unreadable l i g (where_finds (unreadable l) 32 0 i (omega arith) (omega arith) p (λ v x y. b.passed v y)))
+    go false p q = absurd (some_not (row_in l i) (sym q))
 
-pub read_is : (l : List ℕ) (h : Head) (rows : List Row) (i : ℕ) → h ≡ head_of l → i ≡ h.places
-    → rows ≡ list_of (row_in l) i ++ replicate (32 - i) no_row
-    → record { ok = h.ok; machine = record { rows = rows; count = h.count; clock = h.clock } } ≡ read_of l
-unfolding head_of read_of machine_in fresh_at fresh_rows map_from list_of
-read_is l h rows i e p r = go (readable l) refl
+pub read_all : (l : List ℕ) (i : ℕ) (rows : List Row) → i ≡ 32 → 258 ≤ length l → Before l i rows
+    → Some (record { rows = rows; count = get_or l 0 0; clock = get_or l 1 0 }) ≡ read_of l
+unfolding read_of machine_in
+read_all l i rows z g b =
+    let r : readable l ≡ true = sym (all_readable l g (where_all (unreadable l) 32 0 (λ v x y. b.passed v (omega arith)))) in
+    let e : rows ≡ list_of (row_in l) 32 =
+    b.filled ∙ ap (λ (x : ℕ). list_of (row_in l) x ++ replicate (32 - x) no_row) z ∙ append-nil (list_of (row_in l) 32) in
+    rw (r, e)
+
+-- what was read, or not
+pub read_none : (l : List ℕ) → read_of l ≡ None → readable l ≡ false
+unfolding read_of
+read_none l e = go (readable l) refl e
   where
-    go : (b : Bool) → readable l ≡ b → record { ok = h.ok; machine = record { rows = rows; count = h.count; clock = h.clock } } ≡ read_of l
-    go true q =
-        let n : i ≡ 32 = p ∙ (rw q at (ap (λ x. x.places) e)) in
-        rw (e, q, places_all l rows i n r)
-    go false q =
-        let n : i ≡ 0 = p ∙ (rw q at (ap (λ x. x.places) e)) in
-        rw (e, q, r, n)
+    go : (b : Bool) → readable l ≡ b → cond b (Some (machine_in l)) None ≡ None → readable l ≡ false
+    go true p q = absurd cc
+    go false p q = p
+
+pub read_some : (l : List ℕ) (m : Machine) → read_of l ≡ Some m → (readable l ≡ true) × (m ≡ machine_in l)
+unfolding read_of
+read_some l m e = go (readable l) refl e
+  where
+    go : (b : Bool) → readable l ≡ b → cond b (Some (machine_in l)) None ≡ Some m → (readable l ≡ true) × (m ≡ machine_in l)
+    go true p q = (p, cc)
+    go false p q = absurd cc
+
+-- ## The front of longer numbers
+
+where_same : (p q : ℕ → Bool) (n lo : ℕ) → ((k : ℕ) → lo ≤ k → k < lo + n → p k ≡ q k) → first_where p lo n ≡ first_where q lo n
+unfolding first_where
+where_same p q zero lo h = refl
+where_same p q (suc n) lo h =
+    rw (h lo (omega arith) (omega arith), where_same p q n (suc lo) (λ k a b. h k (omega arith) (omega arith)))
+
+list_same : {A : Type 0} (f g : ℕ → A) (n : ℕ) → ((k : ℕ) → k < n → f k ≡ g k) → list_of f n ≡ list_of g n
+unfolding list_of
+list_same f g zero h = refl
+list_same f g (suc n) h = rw (list_same f g n (λ k b. h k (omega arith)), h n (omega arith))
+
+front_place : (l : List ℕ) (i : ℕ) → i < 32 → (unreadable (take 258 l) i ≡ unreadable l i) × (row_in (take 258 l) i ≡ row_in l i)
+front_place l i h = same_place (take 258 l) l i i (λ k b. get_or-take 258 l (2 + 8 * i + k) 0 (omega arith))
+
+pub read_front : (l f : List ℕ) → 258 ≤ length l → f ≡ take 258 l → read_of f ≡ read_of l
+unfolding read_of readable machine_in
+read_front l f h e =
+    let t : ltb (length (take 258 l)) 258 ≡ ltb (length l) 258 =
+    ap (λ (n : ℕ). ltb n 258) (length-take-le 258 l h) ∙ sym (le-ltb _ _ h) in
+    ap read_of e
+    ∙ rw (
+      t,
+      where_same (unreadable (take 258 l)) (unreadable l) 32 0 (λ k a b. (front_place l k (omega arith)).0),
+      list_same (row_in (take 258 l)) (row_in l) 32 (λ k b. (front_place l k b).1),
+      get_or-take 258 l 0 0 (omega arith),
+      get_or-take 258 l 1 0 (omega arith),
+    )
+
+pub read_short : (l : List ℕ) → length l < 258 → None ≡ read_of l
+unfolding read_of
+read_short l h = rw (too_few l h)

@@ -1,4 +1,5 @@
 pub mod Files
+pub mod Inside
 pub mod Numbers
 pub mod Start
 pub mod State

@@ -5,12 +5,9 @@ use Rattle.std.specs.Prelude.{Bool, true, false, cond, ◌||◌, List, [], ◌�
 use Rattle.least.specs.Search.{first_where}
 use Rattle.least.specs.Lists.{list_of, flat}
 use Rattle.machine.specs.Rows.{no_row}
-use Rattle.machine.specs.Fresh.{fresh_at}
 use Rattle.machine.specs.declared.Stage.{Stage}
 use Rattle.machine.specs.declared.Row.{Row}
 use Rattle.machine.specs.declared.Machine.{Machine}
-use Rattle.export.specs.declared.state.Head.{Head}
-use Rattle.export.specs.declared.state.Reading.{Reading}
 
 -- ## To numbers
 
@@ -85,16 +82,6 @@ is_none (Some i) = false
 unfoldable pub readable : List ℕ → Bool
 readable l = cond (ltb (length l) 258) false (is_none (first_where (unreadable l) 0 32))
 
--- what is read of it: all, or nothing
-unfoldable pub head_of : List ℕ → Head
-head_of l =
-    record {
-      ok = readable l;
-      places = cond (readable l) 32 0;
-      count = cond (readable l) (get_or l 0 0) 0;
-      clock = cond (readable l) (get_or l 1 0) 0;
-    }
-
--- the machine where it can be read, else the one with no rows
-unfoldable pub read_of : List ℕ → Reading
-read_of l = record { ok = readable l; machine = cond (readable l) (machine_in l) (fresh_at [] 0) }
+-- the machine where it can be read
+unfoldable pub read_of : List ℕ → Option Machine
+read_of l = cond (readable l) (Some (machine_in l)) None

@@ -4,22 +4,15 @@ ghost use Rattle.export.specs.Numbers.{number_in, place_in};
 
 use refusals::Refusal;
 
-// 0 where a table is accepted, else the refusal's number.
-pub(crate) fn number_in(a: Result<usize, Refusal>) -> u32
-    ensures { result ≡ number_in a }
+// 0 and the number of what is accepted in its place, else the refusal's number and place.
+pub(crate) fn told(answer: Result<usize, Refusal>, place: &mut u64) -> u32
+    ensures number { result ≡ number_in answer }
+    ensures place { place.new ≡ place_in answer }
 {
-    match a {
-        Ok(_) => 0,
-        Err(r) => r.number(),
-    }
-}
-
-// The number of tasks of an accepted table, else the refusal's place.
-pub(crate) fn place_in(a: Result<usize, Refusal>) -> u64
-    ensures { result ≡ place_in a }
-{
-    match a {
-        Ok(n) => n as u64,
-        Err(r) => r.place() as u64,
-    }
+    let (number, at) = match answer {
+        Ok(accepted) => (0, accepted),
+        Err(r) => (r.number(), r.place()),
+    };
+    *place = at as u64;
+    number
 }

@@ -1,13 +1,14 @@
 // Bytes of a plan into lent memory.
-ghost use Rattle.std.specs.Prelude.{◌≡◌, ◌++◌, ◌≤◌, length, drop};
+ghost use Rattle.std.specs.Prelude.{◌≡◌};
+ghost use Rattle.export.specs.Files.{to_front};
 
-// A part to the front of lent bytes that have room for it.
-pub(crate) fn copy(part: &[u8], lent: &mut [u8])
-    requires { length part.now ≤ length lent.old }
-    ensures { lent.new ≡ part.now ++ drop (length part.now) lent.old }
+// A part to the front of lent bytes, where they are enough.
+#[tactic(auto, unfolding(crate::specs::Files::to_front))]
+pub(crate) fn to_front(part: &[u8], lent: &mut [u8])
+    ensures { lent.new ≡ to_front part.now lent.old }
 {
     let n = part.len();
-    for i in 0..n {
-        lent[i] = part[i];
+    if n <= lent.len() {
+        lent[..n].copy_from_slice(part);
     }
 }

@@ -19,9 +19,7 @@ use report::TooShort;
 pub fn tollsalmon_analyse(table: &[u32], results: &mut [u32], place: &mut u64) -> u32
     ensures { AnalysesTable table.now results.old result place.new results.new }
 {
-    let a = analysis::analyse(table, results);
-    *place = answers::place_in(a);
-    answers::number_in(a)
+    answers::told(analysis::analyse(table, results), place)
 }
 
 // A fresh machine of a table into 258 lent numbers: 0 and the number of tasks, else the refusal's number and place. A refused
@@ -29,16 +27,7 @@ pub fn tollsalmon_analyse(table: &[u32], results: &mut [u32], place: &mut u64) -
 pub fn tollsalmon_start(table: &[u32], state: &mut [u64], place: &mut u64) -> u32
     ensures { StartsMachine table.now state.old result place.new state.new }
 {
-    if state.len() < 258 {
-        *place = 258;
-        return 18;
-    }
-    let s = start::start(table);
-    let m = s.machine;
-    let a = s.answer;
-    state::put(state, m);
-    *place = answers::place_in(a);
-    answers::number_in(a)
+    answers::told(state::start(table, state), place)
 }
 
 // The ticks of a run of records from the machine in lent numbers, their answers to the front of lent bytes: 0 and how many, or 8
@@ -51,20 +40,7 @@ pub fn tollsalmon_ticks(
 ) -> u32
     ensures { TakesTicks state.old records.now answers.old result place.new state.new answers.new }
 {
-    let read = state::read(state);
-    let n = ticks::how_many(records.len(), answers.len());
-    if !read.ok {
-        *place = 0;
-        return 8;
-    }
-    *place = n as u64;
-    if n == 0 {
-        return 0;
-    }
-    let m = read.machine;
-    let after = ticks::run(m, records, answers, n);
-    state::put(state, after);
-    0
+    answers::told(ticks::run(state, records, answers), place)
 }
 
 // One tick from the machine in lent numbers, its answer to the front of lent bytes: 0, or the refusal's number and place, and then
@@ -79,48 +55,15 @@ pub fn tollsalmon_step(
 ) -> u32
     ensures { StepsMachine state.old mask signal early answer.old result place.new state.new answer.new }
 {
-    *place = 0;
-    if 1 < early {
-        return 17;
-    }
-    if answer.len() < 12 {
-        *place = 12;
-        return 18;
-    }
-    let read = state::read(state);
-    if !read.ok {
-        return 8;
-    }
-    let m = read.machine;
-    let s = m.step(mask, signal, early == 1);
-    let a = s.answer;
-    match a {
-        Ok(_) => {
-            ticks::put_answer(answer, 0, m.clock, a);
-            state::put(state, s.machine);
-            0
-        }
-        Err(r) => {
-            *place = r.place() as u64;
-            r.number()
-        }
-    }
+    let stepped = ticks::step(state, mask, signal, early, answer);
+    answers::told(stepped.map(|()| 0), place)
 }
 
 // Whether bytes are a plan file: 0 and place 0, or the refusal's number and place.
 pub fn tollsalmon_check(file: &[u8], place: &mut u64) -> u32
     ensures { ChecksFile file.now result place.new }
 {
-    match plan::reader::check(file) {
-        Ok(()) => {
-            *place = 0;
-            0
-        }
-        Err(r) => {
-            *place = r.place() as u64;
-            r.number()
-        }
-    }
+    answers::told(plan::reader::check(file).map(|()| 0), place)
 }
 
 // The table of a plan file to the front of lent numbers, where they are enough: how many numbers it has, 0 for a refused file.
@@ -137,10 +80,7 @@ pub fn tollsalmon_script(file: &[u8], script: &mut [u8]) -> u64
     ensures { ReadsScript file.now script.old result script.new }
 {
     let part = plan::reader::script_of(file);
-    if script.len() < part.len() {
-        return part.len() as u64;
-    }
-    files::copy(part, script);
+    files::to_front(part, script);
     part.len() as u64
 }
 
@@ -148,24 +88,13 @@ pub fn tollsalmon_script(file: &[u8], script: &mut [u8]) -> u64
 pub fn tollsalmon_write(table: &[u32], script: &[u8], output: &mut [u8], place: &mut u64) -> u32
     ensures { WritesFile table.now script.now output.old result place.new output.new }
 {
-    match plan::writer::write(table, script, output) {
-        Ok(n) => {
-            *place = n as u64;
-            0
-        }
-        Err(r) => {
-            *place = r.place() as u64;
-            r.number()
-        }
-    }
+    answers::told(plan::writer::write(table, script, output), place)
 }
 
 // The whole text of a plan's run to the front of lent bytes, where they are enough: how many bytes it has.
 pub fn tollsalmon_report(file: &[u8], text: &mut [u8]) -> u64
     ensures { PrintsRun file.now text.old result text.new }
 {
-    match report::report(file, text) {
-        Ok(n) => n as u64,
-        Err(TooShort { needed }) => needed as u64,
-    }
+    let (Ok(length) | Err(TooShort { needed: length })) = report::report(file, text);
+    length as u64
 }

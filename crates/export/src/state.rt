@@ -1,221 +1,124 @@
 // A machine as 258 numbers, both ways.
-ghost use Rattle.std.specs.Prelude.{◌≡◌, true, false, ◌+◌, ◌*◌, ◌<◌, ◌≤◌, ◌^◌, [], ◌∷◌, ◌++◌, length, get_or, take, drop};
-ghost use Rattle.least.specs.Lists.{list_of, flat};
-ghost use Rattle.export.specs.State.{stage_number, arrival_number, ticks_number, row_numbers, place_numbers, state_of, stage_in, number_in};
-ghost use Rattle.export.specs.State.{row_in, stray, unreadable, readable, head_of, read_of};
+ghost use Rattle.std.specs.Prelude.{◌≡◌, length};
+ghost use Rattle.export.specs.Start.{start_says, state_started};
+ghost use Rattle.export.specs.State.{row_numbers, state_of, read_of};
+ghost use Rattle.export.specs.Inside.{stage_numbers, stage_told, field_told, row_told};
 
 use machine::{Machine, Row, Stage};
+use refusals::Refusal;
 
-// The machine of lent numbers where it can be read, else the machine with no rows.
-#[derive(Clone, Copy)]
-pub struct Reading {
-    pub ok: bool,
-    pub machine: Machine,
-}
+// The numbers of a place, and of a machine: the count of rows, the clock and 32 places.
+const PLACE: usize = 8;
 
-// What comes before the rows, and how many of them are read.
-#[derive(Clone, Copy)]
-struct Head {
-    ok: bool,
-    places: usize,
-    count: usize,
-    clock: u64,
-}
+pub(crate) const STATE: usize = 2 + 32 * PLACE;
 
 // The three numbers of a stage.
-fn stage_number(s: Stage) -> u64
-    ensures { result ≡ stage_number s }
+fn stage_numbers(s: Stage) -> [u64; 3]
+    ensures { result ≡ stage_numbers s }
 {
     match s {
-        Stage::Never => 0,
-        Stage::Guest(_, _) => 1,
-        Stage::Hyper(_, _) => 2,
-        Stage::Closed(_) => 3,
+        Stage::Never => [0, 0, 0],
+        Stage::Guest(arrival, used) => [1, arrival, used],
+        Stage::Hyper(arrival, left) => [2, arrival, left],
+        Stage::Closed(arrival) => [3, arrival, 0],
     }
 }
 
-fn arrival_number(s: Stage) -> u64
-    ensures { result ≡ arrival_number s }
+fn row_numbers(r: Row) -> [u64; PLACE]
+    ensures { result ≡ row_numbers r }
 {
-    match s {
-        Stage::Never => 0,
-        Stage::Guest(a, _) => a,
-        Stage::Hyper(a, _) => a,
-        Stage::Closed(a) => a,
-    }
-}
-
-fn ticks_number(s: Stage) -> u64
-    ensures { result ≡ ticks_number s }
-{
-    match s {
-        Stage::Never => 0,
-        Stage::Guest(_, u) => u,
-        Stage::Hyper(_, l) => l,
-        Stage::Closed(_) => 0,
-    }
-}
-
-// The eight numbers of a row, from place `at` on.
-fn put_row(state: &mut [u64], at: usize, r: Row)
-    requires { at + 8 ≤ length state.old }
-    ensures { state.new ≡ take at state.old ++ row_numbers r ++ drop (at + 8) state.old }
-{
-    let s = r.stage;
-    state[at] = r.t as u64;
-    state[at + 1] = r.d as u64;
-    state[at + 2] = r.c as u64;
-    state[at + 3] = r.k as u64;
-    state[at + 4] = r.e as u64;
-    state[at + 5] = stage_number(s);
-    state[at + 6] = arrival_number(s);
-    state[at + 7] = ticks_number(s);
-}
-
-// The rows, after the count and the clock.
-fn put_rows(state: &mut [u64], rows: [Row; 32])
-    requires { 258 ≤ length state.old }
-    ensures { state.new ≡ take 2 state.old ++ flat (place_numbers rows) 32 ++ drop 258 state.old }
-{
-    for i in 0..32 {
-        put_row(state, 2 + 8 * i, rows[i]);
-    }
-}
-
-// A machine into lent numbers; nothing past them is touched.
-pub(crate) fn put(state: &mut [u64], m: Machine)
-    requires { 258 ≤ length state.old }
-    ensures { state.new ≡ state_of m ++ drop 258 state.old }
-{
-    let rows = m.rows;
-    state[0] = m.count as u64;
-    state[1] = m.clock;
-    put_rows(state, rows);
-}
-
-// Number k of place i.
-fn number(state: &[u64], i: usize, k: usize) -> u64
-    requires { (258 ≤ length state.now) × (i < 32) × (k < 8) }
-    ensures { result ≡ number_in state.now i k }
-{
-    state[2 + 8 * i + k]
-}
-
-// Whether a number isn't 0 that the stage has no use for.
-fn is_stray(stage: u64, arrival: u64, ticks: u64) -> bool
-    ensures { result ≡ stray stage arrival ticks }
-{
-    if stage == 0 {
-        return (0 < arrival) | (0 < ticks);
-    }
-    if stage == 3 {
-        return 0 < ticks;
-    }
-    false
-}
-
-// Whether place i can't be read.
-fn is_unreadable(state: &[u64], i: usize) -> bool
-    requires { (258 ≤ length state.now) × (i < 32) }
-    ensures { result ≡ unreadable state.now i }
-{
-    let stage = number(state, i, 5);
-    let stray = is_stray(stage, number(state, i, 6), number(state, i, 7));
-    (4294967296 <= number(state, i, 0))
-        | ((4294967296 <= number(state, i, 1))
-            | ((4294967296 <= number(state, i, 2))
-                | ((4294967296 <= number(state, i, 3))
-                    | ((4294967296 <= number(state, i, 4)) | ((3 < stage) | stray)))))
-}
-
-// Whether a machine can be read.
-fn is_readable(state: &[u64]) -> bool
-    ensures { result ≡ readable state.now }
-{
-    if state.len() < 258 {
-        return false;
-    }
-    for i in 0..32 {
-        if is_unreadable(state, i) {
-            return false;
-        }
-    }
-    true
-}
-
-// The stage that three numbers say.
-fn stage_in(stage: u64, arrival: u64, ticks: u64) -> Stage
-    ensures { result ≡ stage_in stage arrival ticks }
-{
-    if stage == 0 {
-        return Stage::Never;
-    }
-    if stage == 1 {
-        return Stage::Guest(arrival, ticks);
-    }
-    if stage == 2 {
-        return Stage::Hyper(arrival, ticks);
-    }
-    Stage::Closed(arrival)
-}
-
-// Place i of a machine that can be read.
-fn row_in(state: &[u64], i: usize) -> Row
-    requires { (258 ≤ length state.now) × (i < 32) × (unreadable state.now i ≡ false) }
-    ensures { result ≡ row_in state.now i }
-{
-    let stage = stage_in(
-        number(state, i, 5),
-        number(state, i, 6),
-        number(state, i, 7),
-    );
-    Row {
-        t: number(state, i, 0) as u32,
-        d: number(state, i, 1) as u32,
-        c: number(state, i, 2) as u32,
-        k: number(state, i, 3) as u32,
-        e: number(state, i, 4) as u32,
+    let [stage, arrival, ticks] = stage_numbers(r.stage);
+    [
+        u64::from(r.t),
+        u64::from(r.d),
+        u64::from(r.c),
+        u64::from(r.k),
+        u64::from(r.e),
         stage,
-    }
+        arrival,
+        ticks,
+    ]
 }
 
-// What is read of lent numbers: 32 places, the count and the clock of a machine that can be read, else nothing.
-fn head_of(state: &[u64]) -> Head
-    ensures { result ≡ head_of state.now }
+pub(crate) fn put(numbers: &mut [u64; STATE], m: Machine)
+    ensures { numbers.new ≡ state_of m }
 {
-    if is_readable(state) {
-        return Head {
-            ok: true,
-            places: 32,
-            count: state[0] as usize,
-            clock: state[1],
-        };
-    }
-    Head {
-        ok: false,
-        places: 0,
-        count: 0,
-        clock: 0,
+    numbers[0] = m.count as u64;
+    numbers[1] = m.clock;
+    for (i, row) in m.rows.iter().enumerate() {
+        let at = 2 + PLACE * i;
+        numbers[at..at + PLACE].copy_from_slice(&row_numbers(*row));
     }
 }
 
-// A machine from lent numbers, if there is one. The loop's end is not a constant, and there is one array for both cases: else
-// it is taken apart where this is inlined.
-pub fn read(state: &[u64]) -> Reading
+// A fresh machine of a table into lent numbers.
+#[tactic(auto, unfolding(crate::specs::Start::start_says, crate::specs::Start::state_started))]
+pub(crate) fn start(table: &[u32], state: &mut [u64]) -> Result<usize, Refusal>
+    ensures answers { result ≡ start_says table.now (length state.old) }
+    ensures leaves { state.new ≡ state_started table.now state.old }
+{
+    let Some(numbers) = state.first_chunk_mut() else {
+        return Err(Refusal::OutputShort(STATE));
+    };
+    let s = start::start(table);
+    put(numbers, s.machine);
+    s.answer
+}
+
+// The stage that three numbers tell: none where there is no such stage, or where a number isn't 0 that it has no use for.
+#[tactic(auto, unfolding(crate::specs::State::stray))]
+fn stage_in(stage: u64, arrival: u64, ticks: u64) -> Option<Stage>
+    ensures { result ≡ stage_told stage arrival ticks }
+{
+    match (stage, arrival, ticks) {
+        (0, 0, 0) => Some(Stage::Never),
+        (1, _, used) => Some(Stage::Guest(arrival, used)),
+        (2, _, left) => Some(Stage::Hyper(arrival, left)),
+        (3, _, 0) => Some(Stage::Closed(arrival)),
+        _ => None,
+    }
+}
+
+// A field of a row, which has 32 bits.
+fn field_in(x: u64) -> Option<u32>
+    ensures { result ≡ field_told x }
+{
+    u32::try_from(x).ok()
+}
+
+#[tactic(auto, unfolding(crate::specs::State::unreadable, crate::specs::State::row_in))]
+fn row_in(place: &[u64; PLACE]) -> Option<Row>
+    ensures { result ≡ row_told place.now }
+{
+    let [t, d, c, k, e, stage, arrival, ticks] = *place;
+    Some(Row {
+        t: field_in(t)?,
+        d: field_in(d)?,
+        c: field_in(c)?,
+        k: field_in(k)?,
+        e: field_in(e)?,
+        stage: stage_in(stage, arrival, ticks)?,
+    })
+}
+
+pub(crate) fn machine_in(numbers: &[u64; STATE]) -> Option<Machine>
+    ensures { result ≡ read_of numbers.now }
+{
+    let (places, _) = numbers[2..].as_chunks();
+    let mut rows = [start::no_row(); 32];
+    for i in 0..32 {
+        rows[i] = row_in(&places[i])?;
+    }
+    Some(Machine {
+        rows,
+        count: numbers[0] as usize,
+        clock: numbers[1],
+    })
+}
+
+// A machine from lent numbers, where it can be read.
+pub fn read(state: &[u64]) -> Option<Machine>
     ensures { result ≡ read_of state.now }
 {
-    let h = head_of(state);
-    let places = h.places;
-    let mut rows = [start::no_row(); 32];
-    for i in 0..places {
-        rows[i] = row_in(state, i);
-    }
-    Reading {
-        ok: h.ok,
-        machine: Machine {
-            rows,
-            count: h.count,
-            clock: h.clock,
-        },
-    }
+    machine_in(state.first_chunk()?)
 }

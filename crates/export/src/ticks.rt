@@ -1,14 +1,23 @@
 // Ticks one after the other, with their answers as bytes.
-ghost use Rattle.std.specs.Prelude.{◌≡◌, ℕ, ◌+◌, ◌*◌, ◌/◌, ◌%◌, ◌<◌, ◌≤◌, min, [], ◌∷◌, ◌++◌, length, take, drop, Ok, Err};
-ghost use Rattle.std.proofs.lemmas.List.Edits.{sets};
+ghost use Rattle.std.specs.Prelude.{◌≡◌, ◌*◌, ◌/◌, ◌≤◌, ◌++◌, length, drop};
 ghost use Rattle.least.specs.Lists.{flat};
 ghost use Rattle.plan.specs.Numbers.{bytes_of};
-ghost use Rattle.plan.specs.Bodies.{tick_at};
+ghost use Rattle.export.specs.Inside.{RunsTicks, TakesStep};
 ghost use Rattle.export.specs.Ticks.{who_of, task_of, mark_of, bit_of, said_of, answer_bytes, machine_after, answer_to};
 
 use machine::{Machine, Mark, Ran, Taken};
-use plan::Tick;
+use plan::bodies;
 use refusals::Refusal;
+
+use crate::state;
+
+// The bytes of a record, and of an answer.
+const RECORD: usize = 8;
+
+const ANSWER: usize = 12;
+
+// A state that can't be read.
+const UNREADABLE: Refusal = Refusal::NotWellFormed(0);
 
 // The four numbers of what a tick that was taken says.
 pub fn who_of(r: Ran) -> u8
@@ -26,8 +35,7 @@ pub fn task_of(r: Ran) -> usize
 {
     match r {
         Ran::Nobody => 0,
-        Ran::Guest(i) => i,
-        Ran::Hypertask(i) => i,
+        Ran::Guest(i) | Ran::Hypertask(i) => i,
     }
 }
 
@@ -44,119 +52,90 @@ pub fn mark_of(m: Mark) -> u8
 pub fn bit_of(b: bool) -> u8
     ensures { result ≡ bit_of b }
 {
-    if b { 1 } else { 0 }
+    u8::from(b)
 }
 
-// The four bytes of x from `at` on.
-fn put_number(answers: &mut [u8], at: usize, x: u64)
-    requires { at + 4 ≤ length answers.old }
-    ensures { answers.new ≡ sets answers.old at (bytes_of x) }
+// The lowest 32 bits of a number, the lowest byte first.
+fn number_bytes(x: u64) -> [u8; 4]
+    ensures { result ≡ bytes_of x }
 {
-    answers[at] = (x % 256) as u8;
-    answers[at + 1] = (x / 256 % 256) as u8;
-    answers[at + 2] = (x / 65536 % 256) as u8;
-    answers[at + 3] = (x / 16777216 % 256) as u8;
+    ((x % (1 << 32)) as u32).to_le_bytes()
 }
 
-// Four bytes from `at` on.
-fn put_four(answers: &mut [u8], at: usize, a: u8, b: u8, c: u8, d: u8)
-    requires { at + 4 ≤ length answers.old }
-    ensures { answers.new ≡ sets answers.old at (a ∷ b ∷ c ∷ d ∷ []) }
+// The answer to the tick at a clock: the clock, the refusal's place, and what it says.
+fn answer_bytes(clock: u64, answer: Result<Taken, Refusal>) -> [u8; ANSWER]
+    ensures { result ≡ answer_bytes clock answer }
 {
-    answers[at] = a;
-    answers[at + 1] = b;
-    answers[at + 2] = c;
-    answers[at + 3] = d;
-}
-
-// What a tick that was taken says, in eight bytes from `at` on.
-fn put_taken(answers: &mut [u8], at: usize, t: Taken)
-    requires { at + 8 ≤ length answers.old }
-    ensures { answers.new ≡ sets answers.old at (said_of (Ok t)) }
-{
-    let ran = t.ran;
-    let mark = t.mark;
-    put_number(answers, at, 0);
-    put_four(
-        answers,
-        at + 4,
-        who_of(ran),
-        (task_of(ran) % 256) as u8,
-        mark_of(mark),
-        bit_of(t.ignored),
-    );
-}
-
-// Why a tick was refused, in eight bytes from `at` on.
-fn put_refused(answers: &mut [u8], at: usize, r: Refusal)
-    requires { at + 8 ≤ length answers.old }
-    ensures { answers.new ≡ sets answers.old at (said_of (Err r)) }
-{
-    put_number(answers, at, r.place() as u64);
-    put_four(answers, at + 4, 3, (r.number() % 256) as u8, 0, 0);
-}
-
-// What a tick says, in eight bytes from `at` on.
-fn put_said(answers: &mut [u8], at: usize, a: Result<Taken, Refusal>)
-    requires { at + 8 ≤ length answers.old }
-    ensures { answers.new ≡ sets answers.old at (said_of a) }
-{
-    match a {
-        Ok(t) => put_taken(answers, at, t),
-        Err(r) => put_refused(answers, at, r),
-    }
-}
-
-// The answer to the tick at a clock, in twelve bytes from `at` on.
-pub(crate) fn put_answer(answers: &mut [u8], at: usize, clock: u64, a: Result<Taken, Refusal>)
-    requires { at + 12 ≤ length answers.old }
-    ensures { answers.new ≡ take at answers.old ++ answer_bytes clock a ++ drop (at + 12) answers.old }
-{
-    put_number(answers, at, clock);
-    put_said(answers, at + 4, a);
-}
-
-// Record i, which is there.
-fn tick_of(records: &[u8], i: usize) -> Tick
-    requires { i < length records.now / 8 }
-    ensures { result ≡ tick_at records.now i }
-{
-    match plan::bodies::record(records, i) {
-        Some(t) => t,
-        None => Tick {
-            mask: 0,
-            signal: 0,
-            early: false,
-        },
-    }
-}
-
-// A tick for each whole record that has room for its whole answer.
-pub(crate) fn how_many(records: usize, answers: usize) -> usize
-    ensures { result ≡ min (records / 8) (answers / 12) }
-{
-    let a = records / 8;
-    let b = answers / 12;
-    if a < b {
-        return a;
-    }
-    b
+    let (place, [who, task, mark, ignored]) = match answer {
+        Ok(t) => (
+            0,
+            [
+                who_of(t.ran),
+                (task_of(t.ran) % 256) as u8,
+                mark_of(t.mark),
+                bit_of(t.ignored),
+            ],
+        ),
+        Err(r) => (r.place() as u64, [3, (r.number() % 256) as u8, 0, 0]),
+    };
+    let [a, b, c, d] = number_bytes(clock);
+    let [e, f, g, h] = number_bytes(place);
+    [a, b, c, d, e, f, g, h, who, task, mark, ignored]
 }
 
 // The first n ticks from a machine: the machine after them, their answers at the front of the lent bytes.
-pub(crate) fn run(m: Machine, records: &[u8], answers: &mut [u8], n: usize) -> Machine
-    requires { (n ≤ length records.now / 8) × (12 * n ≤ length answers.old) }
+fn take(mut m: Machine, records: &[u8], answers: &mut [u8], n: usize) -> Machine
+    requires records_in { n ≤ length records.now / 8 }
+    requires answers_in { 12 * n ≤ length answers.old }
     ensures value { result ≡ machine_after m records.now n }
-    ensures answers_after { answers.new ≡ flat (answer_to m records.now) n ++ drop (12 * n) answers.old }
+    ensures answers { answers.new ≡ flat (answer_to m records.now) n ++ drop (12 * n) answers.old }
 {
-    let mut at = m;
     for i in 0..n {
-        let t = tick_of(records, i);
-        let clock = at.clock;
-        let s = at.step(t.mask, t.signal, t.early);
-        let a = s.answer;
-        put_answer(answers, 12 * i, clock, a);
-        at = s.machine;
+        let t = bodies::record(records, i).unwrap();
+        let s = m.step(t.mask, t.signal, t.early);
+        let at = ANSWER * i;
+        answers[at..at + ANSWER].copy_from_slice(&answer_bytes(m.clock, s.answer));
+        m = s.machine;
     }
-    at
+    m
+}
+
+// A tick for each whole record that has room for its whole answer, from the machine in lent numbers: how many.
+pub(crate) fn run(
+    state: &mut [u64],
+    records: &[u8],
+    answers: &mut [u8],
+) -> Result<usize, Refusal>
+    ensures { RunsTicks state.old records.now answers.old result state.new answers.new }
+{
+    let numbers = state.first_chunk_mut().ok_or(UNREADABLE)?;
+    let m = state::machine_in(numbers).ok_or(UNREADABLE)?;
+    let n = (records.len() / RECORD).min(answers.len() / ANSWER);
+    if 0 < n {
+        state::put(numbers, take(m, records, answers, n));
+    }
+    Ok(n)
+}
+
+// One tick from the machine in lent numbers, its answer to the front of lent bytes. Where it is refused, nothing is touched.
+pub(crate) fn step(
+    state: &mut [u64],
+    mask: u32,
+    signal: u8,
+    early: u8,
+    answer: &mut [u8],
+) -> Result<(), Refusal>
+    ensures { TakesStep state.old mask signal early answer.old result state.new answer.new }
+{
+    if 1 < early {
+        return Err(Refusal::RecordBytes(0));
+    }
+    let said = answer.first_chunk_mut().ok_or(Refusal::OutputShort(ANSWER))?;
+    let numbers = state.first_chunk_mut().ok_or(UNREADABLE)?;
+    let m = state::machine_in(numbers).ok_or(UNREADABLE)?;
+    let s = m.step(mask, signal, early == 1);
+    let taken = s.answer?;
+    *said = answer_bytes(m.clock, Ok(taken));
+    state::put(numbers, s.machine);
+    Ok(())
 }

@@ -11,30 +11,16 @@ use lib.Dec.{eqb}
 use lib.ListN.{length}
 use Rattle.least.specs.Search.{pick, first_where}
 use Rattle.least.proofs.Where.{where_none, where_some}
-use Rattle.refusals.specs.declared.Refusal.{Refusal}
-use Rattle.refusals.specs.declared.Refusal.TheVariants.{FileLength, Contents, BodyPlace, BodySize, RecordBytes}
-use Rattle.plan.specs.declared.Ask.{Ask}
-use Rattle.plan.specs.declared.Ask.TheVariants.{WrongKind, WrongPlace, WrongSize, OfKind}
+use Rattle.refusals.specs.declared.Refusal.TheVariants.{Contents, BodyPlace, BodySize, RecordBytes}
+use Rattle.plan.specs.PlanFile.{Ask, WrongKind, WrongPlace, WrongSize, OfKind}
 use Rattle.plan.specs.Refuse.{refuse_at}
 use Rattle.plan.specs.PlanFile.{count, entry_at, section_at, sections_from, sections_of, body_of, script_kind, wrong_length, wrong_count}
 use Rattle.plan.specs.PlanFile.{start_at, first_wrong_record, asked, first_entry, entries_refusal, read_refusal, part_of}
-use Rattle.plan.specs.Inside.{Listed, Placed}
+use Rattle.plan.specs.Inside.{bodies_refusal, Listed, Placed}
 use Rattle.plan.proofs.Tests.{or_inv, if_inv, at_inv}
 
 -- THE CHECKS, ONE AFTER THE OTHER
 module _ (f : List ℕ) where
-  pub stop_length : wrong_length (length f) ≡ true → read_refusal f ≡ Some (FileLength (length f))
-  unfolding read_refusal
-  stop_length e = rw e
-
-  pub stop_count : wrong_length (length f) ≡ false → wrong_count (count f) (length f) ≡ true → read_refusal f ≡ Some (Contents 0)
-  unfolding read_refusal
-  stop_count e g = rw (e, g)
-
-  pub go_entries : wrong_length (length f) ≡ false → wrong_count (count f) (length f) ≡ false → read_refusal f ≡ entries_refusal f
-  unfolding read_refusal
-  go_entries e g = rw (e, g)
-
   pub stop_kind : (i : ℕ) → first_entry WrongKind f ≡ Some i → entries_refusal f ≡ Some (Contents (i + 1))
   unfolding entries_refusal
   stop_kind i e = rw e
@@ -43,19 +29,18 @@ module _ (f : List ℕ) where
   unfolding entries_refusal
   stop_place i e g = rw (e, g)
 
-  pub stop_size : (i : ℕ) → first_entry WrongKind f ≡ None → first_entry WrongPlace f ≡ None → first_entry WrongSize f ≡ Some i
-      → entries_refusal f ≡ Some (BodySize (i + 1))
-  unfolding entries_refusal
-  stop_size i e g h = rw (e, g, h)
+  pub go_bodies : first_entry WrongKind f ≡ None → first_entry WrongPlace f ≡ None → entries_refusal f ≡ bodies_refusal f
+  unfolding entries_refusal bodies_refusal
+  go_bodies e g = rw (e, g)
 
-  pub go_records : first_entry WrongKind f ≡ None → first_entry WrongPlace f ≡ None → first_entry WrongSize f ≡ None
-      → entries_refusal f ≡ refuse_at (λ r. RecordBytes r) (first_wrong_record (body_of script_kind (sections_of f))) None
-  unfolding entries_refusal
-  go_records e g h = rw (e, g, h)
+  pub stop_size : (i : ℕ) → first_entry WrongSize f ≡ Some i → bodies_refusal f ≡ Some (BodySize (i + 1))
+  unfolding bodies_refusal
+  stop_size i e = rw e
 
-  pub no_part : (k : ℕ) (r : Refusal) → read_refusal f ≡ Some r → part_of k f ≡ []
-  unfolding part_of
-  no_part k r e = rw e
+  pub go_records : first_entry WrongSize f ≡ None
+      → bodies_refusal f ≡ refuse_at (λ r. RecordBytes r) (first_wrong_record (body_of script_kind (sections_of f))) None
+  unfolding bodies_refusal
+  go_records e = rw e
 
   pub the_part : (k : ℕ) → read_refusal f ≡ None → part_of k f ≡ body_of k (sections_of f)
   unfolding part_of

@@ -1,5 +1,8 @@
 pub mod Digits
+pub mod Bytes
+pub mod Chunks
 pub mod Puts
+pub mod Finds
 pub mod Tests
 pub mod Entries
 pub mod Values

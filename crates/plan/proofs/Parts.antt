@@ -11,7 +11,7 @@ use borrow.Author.Tests.{eq-eqb, ltb-false, eqb-true, eqb-false, not-false}
 use lib.Dec.{ltb, eqb}
 use lib.ListN.{length, take, drop, length-take, length-drop}
 use lib.Seq.{get_or-take, get_or-drop}
-use Rattle.plan.specs.declared.Ask.TheVariants.{OfKind}
+use Rattle.plan.specs.PlanFile.{OfKind}
 use Rattle.plan.specs.Numbers.{AllBelow}
 use Rattle.plan.specs.PlanFile.{Section, entry_at, sections_of, body_of, rows_kind, script_kind, most_sections}
 use Rattle.plan.specs.PlanFile.{wrong_rows, wrong_script, wrong_size, first_entry}

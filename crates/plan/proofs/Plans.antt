@@ -12,8 +12,7 @@ use borrow.Author.Tests.{le-ltb, eq-eqb, ne_eqb, ltb-false}
 use lib.Dec.{ltb}
 use lib.ListN.{length, drop, drop_of_length-le}
 use Rattle.least.proofs.Where.{where_all}
-use Rattle.plan.specs.declared.Ask.{Ask}
-use Rattle.plan.specs.declared.Ask.TheVariants.{WrongKind, WrongPlace, WrongSize}
+use Rattle.plan.specs.PlanFile.{Ask, WrongKind, WrongPlace, WrongSize}
 use Rattle.plan.specs.Numbers.{AllBelow}
 use Rattle.plan.specs.PlanFile.{Section, bodies, file_of, count, entry_at, sections_of, body_of, script_kind, most_sections, wrong_count, wrong_kind}
 use Rattle.plan.specs.PlanFile.{start_at, wrong_size, first_wrong_record, asked, first_entry, read_refusal, part_of}

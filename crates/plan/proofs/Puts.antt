@@ -2,14 +2,16 @@
 -- Assumes nothing.
 use mathlib.Core.Path.{◌≡◌, sym, ap, ◌∙◌}
 use mathlib.Core.List.{List, [], ◌∷◌, ◌++◌}
-use Prim.Native.Nat.{ℕ, ◌+◌, ◌*◌, ◌≤◌, ◌<◌}
+use Prim.Native.Nat.{ℕ, ◌+◌, ◌≤◌, ◌<◌}
 use native.Mathlib.Numerals.{add-one, add-two, add-three}
 use native.Mathlib.Omega.{arith}
 use lib.ListN.{length, get_or, take, drop, set, length-append}
 use lib.Seq.{sets, sets-eq, take-suc, length-take-le}
 use Rattle.least.proofs.Lists.{sets_append}
+use Rattle.plan.specs.declared.writer.Output.{Output}
 use Rattle.plan.specs.Numbers.{bytes_of, table_bytes}
-use Rattle.plan.proofs.Digits.{table_length, table_append}
+use Rattle.plan.specs.Inside.{Puts}
+use Rattle.plan.proofs.Digits.{table_append}
 
 -- a piece right after another
 pub sets_then : (l : List ℕ) (i j : ℕ) (t u : List ℕ) → j ≡ i + length t → sets (sets l i t) j u ≡ sets l i (t ++ u)
@@ -26,14 +28,10 @@ pub sets_four : (o : List ℕ) (at a b c d : ℕ) → set (set (set (set o at a)
 sets_four o at a b c d = rw (add-one at, add-two at, add-three at)
 
 -- one number more of a table
-pub table_step : (o : List ℕ) (at : ℕ) (t : List ℕ) (i : ℕ) → i < length t
-    → sets (sets o at (table_bytes (take i t))) (at + 4 * i) (bytes_of (get_or t i 0)) ≡ sets o at (table_bytes (take (i + 1) t))
+pub table_more : (t : List ℕ) (i : ℕ) → i < length t → table_bytes (take (i + 1) t) ≡ table_bytes (take i t) ++ bytes_of (get_or t i 0)
 unfolding table_bytes
-table_step o at t i h =
-    let l : length (table_bytes (take i t)) ≡ 4 * i = table_length (take i t) ∙ ap (λ (n : ℕ). 4 * n) (length-take-le i t (omega arith)) in
-    let b : table_bytes (take (i + 1) t) ≡ table_bytes (take i t) ++ bytes_of (get_or t i 0) =
-    ap (λ (n : ℕ). table_bytes (take n t)) (add-one i) ∙ ap table_bytes (take-suc t i 0 h) ∙ table_append (take i t) (get_or t i 0 ∷ []) in
-    sets_then o at (at + 4 * i) (table_bytes (take i t)) (bytes_of (get_or t i 0)) (omega arith) ∙ ap (sets o at) (sym b)
+table_more t i h =
+    ap (λ (n : ℕ). table_bytes (take n t)) (add-one i) ∙ ap table_bytes (take-suc t i 0 h) ∙ table_append (take i t) (get_or t i 0 ∷ [])
 
 -- one byte more of a script
 pub script_step : (o : List ℕ) (at : ℕ) (s : List ℕ) (i : ℕ) → i < length s
@@ -43,9 +41,12 @@ script_step o at s i h =
     let b : take (i + 1) s ≡ take i s ++ (get_or s i 0 ∷ []) = ap (λ (n : ℕ). take n s) (add-one i) ∙ take-suc s i 0 h in
     sets_then o at (at + i) (take i s) (get_or s i 0 ∷ []) (omega arith) ∙ ap (sets o at) (sym b)
 
--- three pieces, each right after the one before it
-pub three_pieces : (o : List ℕ) {a b c : List ℕ} (i j k : ℕ) (t u v : List ℕ) → a ≡ sets o i t → b ≡ sets a j u → c ≡ sets b k v
-    → j ≡ i + length t → k ≡ j + length u → c ≡ sets o i (t ++ u ++ v)
-three_pieces o {a} {b} {c} i j k t u v p q r e g =
-    let w : b ≡ sets o i (t ++ u) = q ∙ ap (λ (l : List ℕ). sets l j u) p ∙ sets_then o i j t u e in
-    r ∙ ap (λ (l : List ℕ). sets l k v) w ∙ sets_then o i k (t ++ u) v (omega (arith, length-append t u))
+-- two pieces, the second where the first ended
+pub puts_then : {a b c : Output} {t u : List ℕ} → Puts a t b → Puts b u c → Puts a (t ++ u) c
+puts_then {a} {b} {c} {t} {u} p q =
+    record {
+      same_output = q.same_output ∙ p.same_output;
+      bytes = q.bytes ∙ ap (λ (l : List ℕ). sets l b.at u) p.bytes ∙ sets_then a.bytes.now a.at b.at t u p.next;
+      next = omega (arith, p.next, q.next, length-append t u);
+      room = q.room ∙ p.room;
+    }

@@ -9,13 +9,16 @@ use native.Mathlib.Nat.{lt_irrefl}
 use native.Mathlib.Omega.{arith}
 use borrow.Author.Tests.{ltb-false}
 use lib.Dec.{ltb, eqb}
-use lib.ListN.{length, get_or, take, drop}
-use lib.Seq.{take-add, drop-drop}
+use lib.ListN.{length, get_or, take, drop, length-drop}
+use lib.Seq.{take-add, drop-drop, get_or-drop}
+use Rattle.least.specs.Lists.{list_of}
+use Rattle.least.proofs.Lists.{length_list}
 use Rattle.least.proofs.Where.{where_none}
+use Rattle.plan.specs.declared.Tick.{Tick}
 use Rattle.plan.specs.Numbers.{AllBelow}
 use Rattle.plan.specs.PlanFile.{wrong_record, first_wrong_record}
-use Rattle.plan.specs.Bodies.{tick_at, tick_bytes}
-use Rattle.plan.proofs.Digits.{take_four, four}
+use Rattle.plan.specs.Bodies.{tick_at, tick_bytes, records_of}
+use Rattle.plan.proofs.Digits.{take_four, four, number_drop}
 use Rattle.plan.proofs.Tests.{or_inv}
 
 -- an early mark is 0 or 1
@@ -46,3 +49,41 @@ record_bytes s i bytes fine h =
     ∙ sym (take_four s (k + 4) (omega arith) ∙ rw (z5, z6, z7))
     ∙ ap (take 4) (sym (drop-drop 4 k s)))
     ∙ sym (take-add 4 4 (drop k s))
+
+-- THE RECORDS, ONE AFTER THE OTHER
+list_same : {A : Type 0} (f g : ℕ → A) (n : ℕ) → ((i : ℕ) → i < n → f i ≡ g i) → list_of f n ≡ list_of g n
+unfolding list_of
+list_same f g zero h = refl
+list_same f g (suc n) h = rw (list_same f g n (λ i b. h i (omega arith)), h n (omega arith))
+
+list_front : {A : Type 0} (f : ℕ → A) (n : ℕ) → list_of f (suc n) ≡ f 0 ∷ list_of (λ i. f (suc i)) n
+unfolding list_of
+list_front f zero = refl
+list_front f (suc n) = ap (λ (l : List _). l ++ (f (suc n) ∷ [])) (list_front f n)
+
+pub tick_drop : (s : List ℕ) (i : ℕ) → tick_at (drop 8 s) i ≡ tick_at s (suc i)
+tick_drop s i =
+    let e : 8 + 8 * i ≡ 8 * suc i = omega arith in
+    let e4 : 8 + (8 * i + 4) ≡ 8 * suc i + 4 = omega arith in
+    let e5 : 8 + (8 * i + 5) ≡ 8 * suc i + 5 = omega arith in
+    rw (number_drop s 8 (8 * i), get_or-drop 8 s (8 * i + 4) 0, get_or-drop 8 s (8 * i + 5) 0, e, e4, e5)
+
+-- how many they are
+pub length_records : (s : List ℕ) → length (records_of s) ≡ length s / 8
+unfolding records_of
+length_records s = length_list (tick_at s) (length s / 8)
+
+-- fewer than eight bytes are no record
+pub records_none : (s : List ℕ) → length s < 8 → records_of s ≡ []
+unfolding records_of list_of
+records_none s h = let e : length s / 8 ≡ 0 = omega arith in ap (list_of (tick_at s)) e
+
+-- the first eight are the first record, and what follows has the others
+pub records_more : (s : List ℕ) → 8 ≤ length s → records_of s ≡ tick_at s 0 ∷ records_of (drop 8 s)
+unfolding records_of
+records_more s h =
+    let n : ℕ = length (drop 8 s) / 8 in
+    let e : length s / 8 ≡ suc n = omega (arith, length-drop 8 s) in
+    ap (list_of (tick_at s)) e
+    ∙ list_front (tick_at s) n
+    ∙ ap (λ (l : List Tick). tick_at s 0 ∷ l) (list_same (λ i. tick_at s (suc i)) (tick_at (drop 8 s)) n (λ i b. sym (tick_drop s i)))

@@ -1,20 +1,18 @@
 -- What the checks' tests say, and answers that tell two things apart.
 -- Assumes nothing.
 use mathlib.Core.Path.{◌≡◌, refl, ap}
-use mathlib.Core.Bool.{Bool, true, false, not, ◌||◌, or-true}
+use mathlib.Core.Bool.{Bool, true, false, not, ◌||◌}
 use mathlib.Core.List.{List}
 use Rattle.std.specs.Prelude.{Option, None, Some, Ok, Err}
-use Prim.Native.Nat.{ℕ, suc, ◌+◌, ◌-◌, ◌*◌, ◌≤◌, ◌<◌}
-use native.Mathlib.Nat.{lt_irrefl, pos_of_ne-zero}
+use Prim.Native.Nat.{ℕ, suc, ◌+◌, ◌-◌, ◌*◌, ◌≤◌}
+use native.Mathlib.Nat.{pos_of_ne-zero}
 use native.Mathlib.Omega.{arith}
-use borrow.Author.Tests.{lt-ltb, le-ltb, eq-eqb, ne_eqb}
-use lib.Dec.{ltb, eqb}
-use lib.ListN.{get_or}
+use borrow.Author.Tests.{le-ltb, eq-eqb}
+use lib.Dec.{eqb}
 use Rattle.refusals.specs.declared.Refusal.{Refusal}
-use Rattle.plan.specs.declared.Found.TheVariants.{At, Nothing}
-use Rattle.plan.specs.declared.Entry.{Entry}
-use Rattle.plan.specs.Refuse.{refuse_if, refuse_at, answer_of, found_of}
-use Rattle.plan.specs.PlanFile.{count, entry_at, start_at, wrong_place, wrong_record}
+use Rattle.plan.specs.declared.reader.Entry.{Entry}
+use Rattle.plan.specs.Refuse.{refuse_if, refuse_at, answer_of}
+use Rattle.plan.specs.PlanFile.{count, entry_at, start_at, wrong_place}
 
 -- neither of two
 pub or_inv : (a b : Bool) → (a || b) ≡ false → (a ≡ false) × (b ≡ false)
@@ -22,14 +20,6 @@ or_inv true b e = let z : ◌≡◌ {A = ℕ} 0 1 = cc in absurd (omega arith)
 or_inv false b e = (refl, e)
 
 -- ANSWERS
-pub found_some : (o : Option ℕ) (k : ℕ) → At k ≡ found_of o → o ≡ Some k
-found_some None k e = cc
-found_some (Some i) k e = cc
-
-pub found_none : (o : Option ℕ) → Nothing ≡ found_of o → o ≡ None
-found_none None e = refl
-found_none (Some i) e = cc
-
 pub answer_some : (o : Option Refusal) (r : Refusal) → Err r ≡ answer_of o → o ≡ Some r
 answer_some None r e = cc
 answer_some (Some q) r e = cc
@@ -62,36 +52,9 @@ unfolding start_at
 start_next f i h = let z : i ≡ suc (i - 1) = omega (arith, pos_of_ne-zero h) in ap (start_at f) z
 
 module _ (start : ℕ) (last : Bool) (len : ℕ) (e : Entry) where
-  pub too_early : e.offset < start → wrong_place start last len e ≡ true
-  too_early h = rw (ne_eqb e.offset start (λ q. lt_irrefl 0 (omega arith)))
-
-  pub gap : start < e.offset → wrong_place start last len e ≡ true
-  gap h = rw (ne_eqb e.offset start (λ q. lt_irrefl 0 (omega arith)))
-
-  pub too_long : len < e.offset + e.length → wrong_place start last len e ≡ true
-  too_long h = rw (lt-ltb len (e.offset + e.length) h, or-true (not (eqb e.offset start)))
-
   pub last_placed : last ≡ true → e.offset ≡ start → e.offset + e.length ≤ len
       → wrong_place start last len e ≡ not (eqb (e.offset + e.length) len)
   last_placed l a b = rw (eq-eqb e.offset start a, le-ltb len (e.offset + e.length) b, l)
 
   pub inner_placed : last ≡ false → e.offset ≡ start → e.offset + e.length ≤ len → wrong_place start last len e ≡ false
   inner_placed l a b = rw (eq-eqb e.offset start a, le-ltb len (e.offset + e.length) b, l)
-
--- 17
-module _ (s : List ℕ) (r : ℕ) where
-  pub bad_mark : 1 < get_or s (8 * r + 5) 0 → wrong_record s r ≡ true
-  unfolding wrong_record
-  bad_mark h = rw (lt-ltb _ _ h)
-
-  pub bad_spare : 0 < get_or s (8 * r + 6) 0 → wrong_record s r ≡ true
-  unfolding wrong_record
-  bad_spare h = rw (lt-ltb _ _ h, or-true (ltb 1 (get_or s (8 * r + 5) 0)))
-
-  pub bad_last : 0 < get_or s (8 * r + 7) 0 → wrong_record s r ≡ true
-  unfolding wrong_record
-  bad_last h = rw (lt-ltb _ _ h) (or-true (ltb 1 (get_or s (8 * r + 5) 0) || ltb 0 (get_or s (8 * r + 6) 0)))
-
-  pub good_record : get_or s (8 * r + 5) 0 ≤ 1 → get_or s (8 * r + 6) 0 ≤ 0 → get_or s (8 * r + 7) 0 ≤ 0 → wrong_record s r ≡ false
-  unfolding wrong_record
-  good_record a b c = rw (le-ltb _ _ a, le-ltb _ _ b, le-ltb _ _ c)

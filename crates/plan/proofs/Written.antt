@@ -3,7 +3,7 @@
 use mathlib.Core.Path.{◌≡◌, refl, sym, ap, ◌∙◌}
 use mathlib.Core.Bool.{Bool, true, false, cond}
 use mathlib.Core.List.{List, [], ◌∷◌, ◌++◌, append-nil, append_assoc}
-use Rattle.std.specs.Prelude.{Option, None, Some, Ok, Err}
+use Rattle.std.specs.Prelude.{Option, None, Some, Ok}
 use Prim.Native.Nat.{ℕ, suc, ◌+◌, ◌*◌, ◌%◌, ◌≤◌}
 use native.Mathlib.Omega.{arith}
 use borrow.Author.Tests.{ltb-false, eqb-true, not-false, eq-eqb, ne_eqb}
@@ -11,7 +11,7 @@ use lib.Dec.{ltb, eqb, eqb-suc-zero}
 use lib.ListN.{length, length-append}
 use lib.Seq.{sets}
 use Rattle.refusals.specs.declared.Refusal.{Refusal}
-use Rattle.refusals.specs.declared.Refusal.TheVariants.{TableLength, FileLength, BodySize, RecordBytes, OutputShort}
+use Rattle.refusals.specs.declared.Refusal.TheVariants.{FileLength, OutputShort}
 use Rattle.plan.specs.Numbers.{bytes_of, table_bytes}
 use Rattle.plan.specs.Refuse.{refuse_if}
 use Rattle.plan.specs.PlanFile.{entry_bytes, contents, bodies, file_of, rows_kind, script_kind, wrong_length, first_wrong_record}
@@ -30,12 +30,24 @@ entry_left_out : (k o n : ℕ) → n ≡ 0 → optional_bytes k o n ≡ []
 unfolding optional_bytes
 entry_left_out k o n h = rw (eq-eqb n 0 h)
 
-pub put_there : (o : List ℕ) {x : List ℕ} (at k a n : ℕ) → (n ≡ 0 → ⊥) → x ≡ sets o at (entry_bytes k a n)
-    → x ≡ sets o at (optional_bytes k a n)
-put_there o at k a n h e = e ∙ ap (sets o at) (sym (entry_there k a n h))
+-- the count and the contents, with a script and without
+module _ (m n x : ℕ) (counted : x ≡ section_count n) where
+  pub head_of_two : (n ≡ 0 → ⊥)
+      → bytes_of x ++ entry_bytes rows_kind (4 + 12 * x) (4 * m) ++ entry_bytes script_kind (4 + 12 * x + 4 * m) n ≡ head_bytes m n
+  head_of_two h =
+      rw counted
+      (ap (λ (l : List ℕ). bytes_of (section_count n) ++ entry_bytes rows_kind (bodies_at n) (4 * m) ++ l)
+      (sym (entry_there script_kind (bodies_at n + 4 * m) n h)))
 
-pub put_left_out : (o : List ℕ) (at k a n : ℕ) → n ≡ 0 → o ≡ sets o at (optional_bytes k a n)
-put_left_out o at k a n h = ap (sets o at) (sym (entry_left_out k a n h))
+  pub head_of_one : n ≡ 0 → bytes_of x ++ entry_bytes rows_kind (4 + 12 * x) (4 * m) ≡ head_bytes m n
+  head_of_one h =
+      rw counted
+      (ap (λ (l : List ℕ). bytes_of (section_count n) ++ entry_bytes rows_kind (bodies_at n) (4 * m) ++ l)
+      (sym (entry_left_out script_kind (bodies_at n + 4 * m) n h)))
+
+  pub two_sections : (n ≡ 0 → ⊥) → x ≡ 2
+  unfolding optional_count
+  two_sections h = counted ∙ rw (ne_eqb n 0 h)
 
 -- a section that is left out where it is empty: how many it makes, its entry, its body
 optional_count_lem : (k : ℕ) (b : List ℕ) → length (optional k b) ≡ optional_count (length b)
@@ -90,19 +102,6 @@ plan_length t s =
 
 -- THE CHECKS, ONE AFTER THE OTHER
 module _ (t s : List ℕ) (room : ℕ) where
-  pub stop_table : wrong_table (length t) ≡ true → write_refusal t s room ≡ Some (TableLength (length t))
-  unfolding write_refusal
-  stop_table e = rw e
-
-  pub stop_eights : wrong_table (length t) ≡ false → (length s % 8 ≡ 0 → ⊥) → write_refusal t s room ≡ Some (BodySize 2)
-  unfolding write_refusal
-  stop_eights e g = rw (e, ne_eqb _ _ g)
-
-  pub stop_record : (r : ℕ) → wrong_table (length t) ≡ false → length s % 8 ≡ 0 → first_wrong_record s ≡ Some r
-      → write_refusal t s room ≡ Some (RecordBytes r)
-  unfolding write_refusal
-  stop_record r e g h = rw (e, eq-eqb _ _ g, h)
-
   -- the total, as the code counts it
   module _ (need : ℕ) (counted : need ≡ file_length (length t) (length s)) where
     whole : length (plan_file t s) ≡ need
@@ -163,13 +162,6 @@ module _ (t s : List ℕ) (room : ℕ) where
 
 -- THE PROMISE, each way out
 module _ (t s lent : List ℕ) where
-  pub nothing_written : (r : Refusal) → write_refusal t s (length lent) ≡ Some r → Writes t s lent (Err r) lent
-  nothing_written r e =
-      record {
-        answers = sym (ap (λ (o : Option Refusal). writing_of o (length (plan_file t s))) e);
-        leaves = sym (ap (λ (o : Option Refusal). after_writing o (plan_file t s) lent) e);
-      }
-
   pub file_written : (n : ℕ) (after : List ℕ) → write_refusal t s (length lent) ≡ None → n ≡ file_length (length t) (length s)
       → after ≡ sets lent 0 (plan_file t s) → Writes t s lent (Ok n) after
   file_written n after e p q =

@@ -1,6 +1,7 @@
 -- Bodies as values: document 01, "The plan file", rows of four numbers and tick records of 8 bytes.
 -- Assumes nothing.
 use Rattle.std.specs.Prelude.{◌≡◌, cond, List, [], ◌∷◌, ◌++◌, ℕ, ◌+◌, ◌*◌, ◌/◌, ◌%◌, ltb, eqb, length, get_or, drop, Ok, Err, None, Some}
+use Rattle.least.specs.Lists.{list_of}
 use Rattle.plan.specs.declared.Tick.{Tick}
 use Rattle.plan.specs.Answers.{Recorded, Taken}
 use Rattle.plan.specs.declared.RowsError.TheVariants.{NotInFours, TooShort}
@@ -17,6 +18,10 @@ tick_bytes t = bytes_of t.mask ++ (t.signal ∷ cond t.early 1 0 ∷ 0 ∷ 0 ∷
 -- a script has a record for each whole eight of its bytes
 unfoldable pub record_of : List ℕ → ℕ → Recorded
 record_of s i = cond (ltb i (length s / 8)) (Some (tick_at s i)) None
+
+-- all of its records
+unfoldable pub records_of : List ℕ → List Tick
+records_of s = list_of (tick_at s) (length s / 8)
 
 -- the bytes of rows, taken into lent numbers: how many they are, or why nothing was taken
 unfoldable pub taken_of : List ℕ → ℕ → Taken

@@ -4,9 +4,7 @@ use Rattle.std.specs.Prelude.{Bool, not, cond, ◌&&◌, ◌||◌, List, [], ◌
 use Rattle.least.specs.Search.{first_where}
 use Rattle.refusals.specs.declared.Refusal.{Refusal}
 use Rattle.refusals.specs.declared.Refusal.TheVariants.{FileLength, Contents, BodyPlace, BodySize, RecordBytes}
-use Rattle.plan.specs.declared.Entry.{Entry}
-use Rattle.plan.specs.declared.Ask.{Ask}
-use Rattle.plan.specs.declared.Ask.TheVariants.{WrongKind, WrongPlace, WrongSize, OfKind}
+use Rattle.plan.specs.declared.reader.Entry.{Entry}
 use Rattle.plan.specs.Numbers.{number_at, bytes_of}
 use Rattle.plan.specs.Refuse.{refuse_if, refuse_at}
 
@@ -111,6 +109,13 @@ wrong_record s r = ltb 1 (get_or s (8 * r + 5) 0) || ltb 0 (get_or s (8 * r + 6)
 
 unfoldable pub first_wrong_record : List ℕ → Option ℕ
 first_wrong_record s = first_where (wrong_record s) 0 (length s / 8)
+
+-- a question about an entry
+pub data Ask : Type 0 where
+  WrongKind : Ask
+  WrongPlace : Ask
+  WrongSize : Ask
+  OfKind : ℕ → Ask
 
 -- a question about entry i of a file, and the first entry of which it is true
 unfoldable pub asked : Ask → List ℕ → ℕ → Bool

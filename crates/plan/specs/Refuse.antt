@@ -3,8 +3,6 @@
 use Rattle.std.specs.Prelude.{Bool, true, false, ℕ, Option, None, Some, Ok, Err}
 use Rattle.refusals.specs.declared.Refusal.{Refusal}
 use Rattle.plan.specs.Answers.{Answer}
-use Rattle.plan.specs.declared.Found.{Found}
-use Rattle.plan.specs.declared.Found.TheVariants.{At, Nothing}
 
 -- the refusal where the test passes, or what comes next
 abbrev pub refuse_if : Bool → Refusal → Option Refusal → Option Refusal
@@ -19,8 +17,4 @@ refuse_at r None next = next
 -- as the code answers them
 abbrev pub answer_of : Option Refusal → Answer
 answer_of (Some r) = Err r
-answer_of None = Ok tt
-
-abbrev pub found_of : Option ℕ → Found
-found_of (Some k) = At k
-found_of None = Nothing
+answer_of None = (Ok tt)

@@ -1,192 +1,228 @@
 // The reader: the checks by number over all entries, and the parts of the caller's bytes.
-ghost use Rattle.std.specs.Prelude.{◌≡◌, ◌<◌, length};
-ghost use Rattle.plan.specs.Refuse.{answer_of, found_of};
-ghost use Rattle.plan.specs.PlanFile.{count, entry_at, sections_of, body_of, rows_kind, script_kind, wrong_count};
-ghost use Rattle.plan.specs.PlanFile.{wrong_kind, start_at, wrong_place, wrong_size, asked, first_entry};
-ghost use Rattle.plan.specs.PlanFile.{entries_refusal, read_refusal, part_of};
-ghost use Rattle.plan.specs.Inside.{Listed, Placed};
+ghost use Rattle.std.specs.Prelude.{◌≡◌, ◌+◌, ◌<◌, None};
+ghost use Rattle.plan.specs.Refuse.{answer_of};
+ghost use Rattle.plan.specs.PlanFile.{count, entry_at, sections_of, body_of, rows_kind, script_kind, wrong_count, wrong_size};
+ghost use Rattle.plan.specs.PlanFile.{start_at, asked, WrongPlace, entries_refusal, read_refusal, part_of};
+ghost use Rattle.plan.specs.Inside.{number_of, bodies_refusal, Listed, Step};
 
-use super::{
-    Ask, Entry, Found, MOST_SECTIONS, ROWS, SCRIPT, first_wrong_record, number, wrong_length,
-};
+use super::bodies::first_wrong_record;
+use super::{Kind, number, wrong_length};
 use refusals::Refusal;
+use std::marker::Model;
 
-// Entry i of the contents.
-fn entry(file: &[u8], i: usize) -> Entry
-    requires { (Listed file.now) × (i < count file.now) }
-    ensures { (result ≡ entry_at file.now i) × (result.kind < 4294967296) × (result.offset < 4294967296) × (result.length < 4294967296) }
-{
-    let kind = number(file, 4 + 12 * i);
-    let offset = number(file, 8 + 12 * i);
-    let length = number(file, 12 + 12 * i);
-    Entry {
-        kind,
-        offset,
-        length,
+const MOST_SECTIONS: u32 = 2;
+
+// An entry of the contents.
+#[derive(Clone, Copy, Debug, PartialEq, Eq)]
+struct Entry {
+    kind: u32,
+    offset: u32,
+    length: u32,
+}
+
+impl Entry {
+    // Where the body ends.
+    fn end(self) -> usize
+        ensures { result ≡ self.offset + self.length }
+    {
+        self.offset as usize + self.length as usize
+    }
+
+    // 16
+    fn wrong_size(self) -> bool
+        ensures { result ≡ wrong_size self.kind self.length }
+    {
+        if self.kind == Kind::Script.number() {
+            self.length == 0 || !self.length.is_multiple_of(8)
+        } else {
+            !(16..=512).contains(&self.length) || !self.length.is_multiple_of(16)
+        }
     }
 }
 
 // 14, place 0
-fn wrong_count(n: usize, len: usize) -> bool
-    requires { n < 4294967296 }
+fn wrong_count(n: u32, len: usize) -> bool
     ensures { result ≡ wrong_count n len }
 {
-    (n < 1) | (MOST_SECTIONS < n) | (len < 4 + 12 * n)
+    !(1..=MOST_SECTIONS).contains(&n) || len < 4 + 12 * n as usize
 }
 
-// 14: the kind of entry i.
-fn wrong_kind(i: usize, kind: usize) -> bool
-    requires { i < 4294967296 }
-    ensures { result ≡ wrong_kind i kind }
-{
-    kind != i + 1
+// A file with its contents in it.
+#[derive(Drop)]
+struct Contents<'a> {
+    file: &'a [u8],
 }
 
-// Where the body of entry i has to begin.
-fn start_at(file: &[u8], i: usize) -> usize
-    requires { (Listed file.now) × (i < count file.now) }
-    ensures { result ≡ start_at file.now i }
-{
-    if i == 0 {
-        return 4 + 12 * number(file, 0);
-    }
-    let e = entry(file, i - 1);
-    e.offset + e.length
+impl<'a> Model for Contents<'a> {
+    ghost use Rattle.std.specs.Prelude.{List, ℕ};
+    ghost use Rattle.plan.specs.Inside.{Listed};
+
+    ghost Value = { List ℕ };
+
+    ghost view = { λ c. c.file.now };
+
+    ghost invariant = { λ c. Listed c.file.now };
 }
 
-// 15: a body that has to begin at `start`, in a file of len bytes.
-fn wrong_place(start: usize, last: bool, len: usize, e: Entry) -> bool
-    requires { (e.offset < 4294967296) × (e.length < 4294967296) }
-    ensures { result ≡ wrong_place start last len e }
-{
-    let offset = e.offset;
-    let end = offset + e.length;
-    if offset < start {
-        return true;
-    }
-    let gap = offset - start;
-    if 0 < gap {
-        return true;
-    }
-    if len < end {
-        return true;
-    }
-    if last {
-        return end != len;
-    }
-    false
-}
-
-// 16
-fn wrong_size(kind: usize, n: usize) -> bool
-    ensures { result ≡ wrong_size kind n }
-{
-    if kind == SCRIPT {
-        return (n == 0) | (n % 8 != 0);
-    }
-    (n < 16) | (512 < n) | (n % 16 != 0)
-}
-
-// Whether a question about entry i is true.
-fn is_so(ask: Ask, file: &[u8], i: usize) -> bool
-    requires { (Listed file.now) × (i < count file.now) }
-    ensures { result ≡ asked ask file.now i }
-{
-    let e = entry(file, i);
-    match ask {
-        Ask::WrongKind => wrong_kind(i, e.kind),
-        Ask::WrongPlace => {
-            let last = i + 1 == number(file, 0);
-            wrong_place(start_at(file, i), last, file.len(), e)
+impl<'a> Contents<'a> {
+    // 13, and 14 at place 0.
+    #[tactic(auto, unfolding(crate::specs::PlanFile::read_refusal))]
+    fn read(file: &'a [u8]) -> Result<Contents<'a>, Refusal>
+        ensures { Step (read_refusal file.now) (entries_refusal file.now) file.now result }
+    {
+        let len = file.len();
+        if wrong_length(len) {
+            return Err(Refusal::FileLength(len));
         }
-        Ask::WrongSize => wrong_size(e.kind, e.length),
-        Ask::OfKind(k) => e.kind == k,
+        if wrong_count(number(file, 0), len) {
+            return Err(Refusal::Contents(0));
+        }
+        Ok(Contents { file })
     }
-}
 
-// The first entry of which a question is true.
-fn first_entry(ask: Ask, file: &[u8], n: usize) -> Found
-    requires { (Listed file.now) × (n ≡ count file.now) }
-    ensures { result ≡ found_of (first_entry ask file.now) }
-{
-    for i in 0..n {
-        if is_so(ask, file, i) {
-            return Found::At(i);
+    fn count(&self) -> usize
+        ensures value { result ≡ count self.now }
+        ensures listed { Listed self.now }
+    {
+        number(self.file, 0) as usize
+    }
+
+    // Entry i, from 0.
+    fn entry(&self, i: usize) -> Entry
+        requires { i < count self.now }
+        ensures { result ≡ entry_at self.now i }
+    {
+        Entry {
+            kind: number(self.file, 4 + 12 * i),
+            offset: number(self.file, 8 + 12 * i),
+            length: number(self.file, 12 + 12 * i),
         }
     }
-    Found::Nothing
+
+    // Where the body of entry i has to begin.
+    #[tactic(auto, using(crate::proofs::Tests::start_first, crate::proofs::Tests::start_next))]
+    fn start_at(&self, i: usize) -> usize
+        requires { i < count self.now }
+        ensures { result ≡ start_at self.now i }
+    {
+        if i == 0 {
+            4 + 12 * self.count()
+        } else {
+            self.entry(i - 1).end()
+        }
+    }
+
+    // 15
+    #[tactic(auto, unfolding(crate::specs::PlanFile::asked))]
+    fn wrong_place(&self, i: usize) -> bool
+        requires { i < count self.now }
+        ensures { result ≡ asked WrongPlace self.now i }
+    {
+        let len = self.file.len();
+        let e = self.entry(i);
+        let last = i + 1 == self.count();
+        e.offset as usize != self.start_at(i) || len < e.end() || last && e.end() != len
+    }
+
+    // 14 by entry and 15, each over all entries.
+    fn placed(self) -> Result<Plan<'a>, Refusal>
+        ensures { Step (entries_refusal self.entry) (bodies_refusal self.entry) self.entry result }
+    {
+        let n = self.count();
+        if let Some(i) = (0..n).find(|&i| self.entry(i).kind as usize != i + 1) {
+            return Err(Refusal::Contents(i + 1));
+        }
+        if let Some(i) = (0..n).find(|&i| self.wrong_place(i)) {
+            return Err(Refusal::BodyPlace(i + 1));
+        }
+        Ok(Plan { contents: self })
+    }
 }
 
-// The body of the first entry of a kind, empty where there is none.
-fn body(file: &[u8], kind: usize) -> &[u8]
-    requires { Placed file.now }
-    ensures { result.now ≡ body_of kind (sections_of file.now) }
-{
-    let Found::At(i) = first_entry(Ask::OfKind(kind), file, number(file, 0)) else {
-        return &file[0..0];
-    };
-    let e = entry(file, i);
-    let a = e.offset;
-    let z = a + e.length;
-    &file[a..z]
+// A file with each body in its place.
+#[derive(Drop)]
+struct Plan<'a> {
+    contents: Contents<'a>,
 }
 
-// 14 by entry, 15, 16 and 17.
-fn check_entries(file: &[u8]) -> Result<(), Refusal>
-    requires { Listed file.now }
-    ensures { result ≡ answer_of (entries_refusal file.now) }
-{
-    let n = number(file, 0);
-    if let Found::At(i) = first_entry(Ask::WrongKind, file, n) {
-        return Err(Refusal::Contents(i + 1));
+impl<'a> Model for Plan<'a> {
+    ghost use Rattle.std.specs.Prelude.{List, ℕ};
+    ghost use Rattle.plan.specs.Inside.{Placed};
+
+    ghost Value = { List ℕ };
+
+    ghost view = { λ p. p.contents };
+
+    ghost invariant = { λ p. Placed p.contents };
+}
+
+impl<'a> Plan<'a> {
+    // The plan in a file, or the first refusal by number.
+    fn read(file: &'a [u8]) -> Result<Plan<'a>, Refusal>
+        ensures { Step (read_refusal file.now) None file.now result }
+    {
+        let plan = Contents::read(file)?.placed()?;
+        plan.check_bodies()?;
+        Ok(plan)
     }
-    if let Found::At(i) = first_entry(Ask::WrongPlace, file, n) {
-        return Err(Refusal::BodyPlace(i + 1));
+
+    // 16 and 17.
+    fn check_bodies(&self) -> Result<(), Refusal>
+        ensures { result ≡ answer_of (bodies_refusal self.now) }
+    {
+        let contents = &self.contents;
+        if let Some(i) = (0..contents.count()).find(|&i| contents.entry(i).wrong_size()) {
+            return Err(Refusal::BodySize(i + 1));
+        }
+        match first_wrong_record(self.body(Kind::Script)) {
+            Some(r) => Err(Refusal::RecordBytes(r)),
+            None => Ok(()),
+        }
     }
-    if let Found::At(i) = first_entry(Ask::WrongSize, file, n) {
-        return Err(Refusal::BodySize(i + 1));
+
+    // The body of the first entry of a kind, empty where there is none.
+    fn body(&self, kind: Kind) -> &'a [u8]
+        ensures { result.now ≡ body_of (number_of kind) (sections_of self.now) }
+    {
+        let contents = &self.contents;
+        let Some(i) = (0..contents.count()).find(|&i| contents.entry(i).kind == kind.number())
+        else {
+            return &[];
+        };
+        let e = contents.entry(i);
+        &contents.file[e.offset as usize..e.end()]
     }
-    let script = body(file, SCRIPT);
-    if let Found::At(r) = first_wrong_record(script, script.len() / 8) {
-        return Err(Refusal::RecordBytes(r));
-    }
-    Ok(())
 }
 
 // Whether a file is a plan, and if not, the first refusal by number.
 pub fn check(file: &[u8]) -> Result<(), Refusal>
     ensures { result ≡ answer_of (read_refusal file.now) }
 {
-    let len = file.len();
-    if wrong_length(len) {
-        return Err(Refusal::FileLength(len));
-    }
-    if wrong_count(number(file, 0), len) {
-        return Err(Refusal::Contents(0));
-    }
-    check_entries(file)
+    Plan::read(file)?;
+    Ok(())
 }
 
 // The body of a kind in a plan, empty where the file is refused.
-fn part_of(file: &[u8], kind: usize) -> &[u8]
-    ensures { result.now ≡ part_of kind file.now }
+#[tactic(auto, unfolding(crate::specs::PlanFile::part_of))]
+fn part_of(file: &[u8], kind: Kind) -> &[u8]
+    ensures { result.now ≡ part_of (number_of kind) file.now }
 {
-    if let Err(_) = check(file) {
-        return &file[0..0];
+    match Plan::read(file) {
+        Ok(plan) => plan.body(kind),
+        Err(_) => &[],
     }
-    body(file, kind)
 }
 
 // The rows of a plan, as a part of the caller's bytes: empty where the file is refused.
 pub fn rows_of(file: &[u8]) -> &[u8]
     ensures { result.now ≡ part_of rows_kind file.now }
 {
-    part_of(file, ROWS)
+    part_of(file, Kind::Rows)
 }
 
 // The script of a plan, as a part of the caller's bytes: empty where the file is refused or has none.
 pub fn script_of(file: &[u8]) -> &[u8]
     ensures { result.now ≡ part_of script_kind file.now }
 {
-    part_of(file, SCRIPT)
+    part_of(file, Kind::Script)
 }

@@ -1,26 +1,21 @@
-use borrow.Author.Tests.{not-true, not-false}
-use Rattle.export.proofs.Ends.{read_says, read_machine}
+use mathlib.Core.Path.{sym, ◌∙◌}
+use Rattle.export.proofs.States.{read_none, read_some}
 use Rattle.pace.proofs.Sums.{pace_unread, pace_many, pace_is}
 use Rattle.pace.proofs.tollsalmon_bench_ticks.Goals as goal
 
-pub returns-then-not-read : goal.returns-then-not-read
-returns-then-not-read c =
+pub returns-in_default : goal.returns-in_default
+returns-in_default c =
     let a = c.args in
-    let s = a.state.now in
-    pace_unread s a.mask a.signal a.early a.times (read_says s _ _ c.read-read.ensures (not-true _ c.if-not-read.true))
+    pace_unread a.state.now a.mask a.signal a.early a.times (read_none a.state.now (sym c.in_default.ensures))
 
-pub returns-then-times-gt4294967296 : goal.returns-then-times-gt4294967296
-returns-then-times-gt4294967296 c =
+pub returns-then-times-gt-MOST_TIMES : goal.returns-then-times-gt-MOST_TIMES
+returns-then-times-gt-MOST_TIMES c =
     let a = c.args in
-    let s = a.state.now in
-    pace_many s a.mask a.signal a.early a.times
-    (read_says s _ _ c.read-read.ensures (not-false _ c.if-not-read.false)) c.if-times-gt4294967296.true
+    let r = read_some a.state.now _ (sym c.in-Some.ensures) in
+    pace_many a.state.now a.mask a.signal a.early a.times r.0 c.if-times-gt-MOST_TIMES.true
 
 pub returns : goal.returns
 returns c =
     let a = c.args in
-    let s = a.state.now in
-    let d = c.read-read in
-    let h = read_says s d.result _ d.ensures (not-false _ c.if-not-read.false) in
-    pace_is s a.mask a.signal a.early a.times _ d.result.machine h c.if-times-gt4294967296.false
-    (read_machine s d.result d.ensures h) c.run.ensures
+    let r = read_some a.state.now _ (sym c.in-Some.ensures) in
+    pace_is a.state.now a.mask a.signal a.early a.times _ c.in-Some.m r.0 c.if-times-gt-MOST_TIMES.false r.1 c.run.ensures

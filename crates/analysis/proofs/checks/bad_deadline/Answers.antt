@@ -1,18 +1,19 @@
-use mathlib.Core.Path.{ap, sym}
+use mathlib.Core.List.{List}
+use Prim.Native.Nat.{ℕ}
+use native.Mathlib.Nat.{add-zero}
 use native.Mathlib.Omega.{arith}
-use borrow.Author.Tests.{lt-ltb, le-ltb}
-use Rattle.least.proofs.Where.{walk_next, walk_found, walk_none}
+use lib.Dec.{ltb}
+use lib.ListN.{get_or}
+use borrow.Author.Rules.{rules}
+use borrow.Author.Tests.{tests}
+use Rattle.std.specs.Slice.Iter.{chunks_exact_rest, chunks_exact_size}
 use Rattle.equations.specs.Analysis.{bad_deadline}
-use Rattle.analysis.specs.Loops.{place_of}
+use Rattle.analysis.proofs.Positions.{first_row}
 use Rattle.analysis.proofs.checks.bad_deadline.Goals as goal
 
-pub returns-then-period-deadline : goal.returns-then-period-deadline
-returns-then-period-deadline c = let s = c.args.table.now in
-    ap place_of (sym (walk_found (bad_deadline s) _ _ c.loop-j.invariant (omega arith) (lt-ltb _ _ c.if-period-deadline.true)))
-
-pub loop-j-preserved : goal.loop-j-preserved
-loop-j-preserved c = let s = c.args.table.now in
-    walk_next (bad_deadline s) _ _ c.loop-j.invariant (omega arith) (le-ltb _ _ c.if-period-deadline.false)
-
 pub returns : goal.returns
-returns c = ap place_of (sym (walk_none (bad_deadline c.args.table.now) _ _ c.loop-j.invariant (omega arith)))
+returns c =
+    let s = c.args.table.now in
+    first_row chunks_exact_rest chunks_exact_size _ _ _ s (λ (row : List ℕ). ltb (get_or row 0 0) (get_or row 1 0)) (bad_deadline s)
+    c.chunks_exact.ensures.rest c.chunks_exact.ensures.size c.chunks_exact.ensures.runs
+    (λ k row h. rw (h 0 (omega arith), h 1 (omega arith), add-zero)) (λ a b q k. search (rules, tests)) _ c.position.ensures.runs

@@ -1,14 +1,14 @@
-use Rattle.export.proofs.States.{put_all, length_two}
 use mathlib.Core.Path.{◌∙◌}
 use native.Mathlib.Omega.{arith}
-use lib.ListN.{length-set}
+use Rattle.export.proofs.States.{rows_none, row_more, rows_all}
 use Rattle.export.proofs.state.put.Goals as goal
 
-pub bounds-state-1 : goal.bounds-state-1
-bounds-state-1 c = simp length-set (omega arith)
+pub loop-i-init : goal.loop-i-init
+loop-i-init c = rows_none c.args.numbers.now c.args.m c.told-numbers
 
-pub shape_of-state : goal.shape_of-state
-shape_of-state c = c.state-1.given ∙ length_two c.args.state.now c.args.m.count c.args.m.clock
+pub loop-i-preserved : goal.loop-i-preserved
+loop-i-preserved c =
+    row_more c.args.m c.args.numbers.now c.loop-i.numbers _ c.loop-i.i (c.copy_from_slice.ensures.after ∙ c.row_numbers.ensures) c.loop-i.invariant
 
 pub returns : goal.returns
-returns c = c.put_rows.ensures ∙ put_all c.args.state.now c.args.m c.requires
+returns c = rows_all c.args.m c.args.numbers.now c.loop-i.numbers c.loop-i.i c.told-numbers (omega arith) c.loop-i.invariant

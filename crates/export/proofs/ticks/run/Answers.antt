@@ -1,38 +1,32 @@
-use mathlib.Core.Path.{◌≡◌, refl, ap, ◌∙◌}
-use mathlib.Core.List.{◌++◌}
-use Prim.Native.Nat.{ℕ, ◌*◌}
+use mathlib.Core.Path.{sym, ◌∙◌}
 use native.Mathlib.Omega.{arith}
-use lib.ListN.{drop}
-use Rattle.least.specs.Lists.{flat}
-use Rattle.export.specs.Ticks.{machine_after, answer_to}
-use Rattle.export.proofs.AnswerBytes.{machine_more, answer_more}
+use Rattle.std.proofs.lemmas.Option.{MatchOption-at_some, MatchOption-at_none}
+use Rattle.export.proofs.Ends.{missing, there, run_short, run_unread, run_none, run_taken}
 use Rattle.export.proofs.ticks.run.Goals as goal
 
-pub loop-i-init : goal.loop-i-init
-unfolding machine_after flat
-loop-i-init c = (omega arith, refl, refl, refl)
-
-pub loop-i-preserved : goal.loop-i-preserved
-loop-i-preserved c =
+pub returns-in_err-numbers : goal.returns-in_err-numbers
+returns-in_err-numbers c =
     let a = c.args in
-    let l = c.loop-i in
-    let t = c.tick_of-t in
-    let s = c.step-s in
-    let rs = a.records.now in
-    let put = c.put_answer.ensures in (
-      omega arith,
-      machine_more a.m rs l.i l.at t.result s.result l.invariant.1 t.ensures s.ensures,
-      answer_more a.m rs l.i l.at t.result s.result a.answers.now l.answers _ l.invariant.1 t.ensures s.ensures l.invariant.2 put,
-      omega (arith, l.invariant.3),
-    )
+    let e = missing _ c.from_residual.result _ _ c.in_err-numbers.ensures.value c.from_residual.ensures.1 in
+    rw e.1 (run_short a.state.now a.records.now a.answers.now (MatchOption-at_none _ _ e.0 c.first_chunk_mut.ensures.cases))
 
-pub returns : goal.returns
-returns c =
+pub returns-in_err-m : goal.returns-in_err-m
+returns-in_err-m c =
     let a = c.args in
-    let l = c.loop-i in
-    let e : l.i ≡ a.n = omega arith in
-    let rs = a.records.now in
-    record {
-      value = l.invariant.1 ∙ ap (machine_after a.m rs) e;
-      answers_after = l.invariant.2 ∙ ap (λ (x : ℕ). flat (answer_to a.m rs) x ++ drop (12 * x) a.answers.now) e;
-    }
+    let e = missing _ c.from_residual-in_err-m.result _ _ c.in_err-m.ensures.value c.from_residual-in_err-m.ensures.1 in
+    let p = MatchOption-at_some _ _ _ (there _ _ _ c.in_ok-numbers.ensures.value) c.first_chunk_mut.ensures.cases in
+    rw e.1 (run_unread a.state.now a.records.now a.answers.now _ p (sym c.machine_in.ensures ∙ e.0))
+
+pub returns-then-n-gt0 : goal.returns-then-n-gt0
+returns-then-n-gt0 c =
+    let a = c.args in
+    let p = MatchOption-at_some _ _ _ (there _ _ _ c.in_ok-numbers.ensures.value) c.first_chunk_mut.ensures.cases in
+    run_taken a.state.now a.records.now a.answers.now _ _ _ _ _ _ p (sym c.machine_in.ensures ∙ there _ _ _ c.in_ok-m.ensures.value)
+    c.min-n.ensures c.if-n-gt0.true c.take.ensures.value c.put.ensures c.take.ensures.answers
+
+pub returns-else-n-gt0 : goal.returns-else-n-gt0
+returns-else-n-gt0 c =
+    let a = c.args in
+    let p = MatchOption-at_some _ _ _ (there _ _ _ c.in_ok-numbers.ensures.value) c.first_chunk_mut.ensures.cases in
+    run_none a.state.now a.records.now a.answers.now _ _ _ p (sym c.machine_in.ensures ∙ there _ _ _ c.in_ok-m.ensures.value)
+    c.min-n.ensures (omega arith)
