@@ -1,20 +1,18 @@
 -- From the checks to the answer: what the search goes by in `solve` and `analyse`.
 -- Assumes nothing.
 use mathlib.Core.Path.{◌≡◌, refl, sym, ap, ◌∙◌}
-use mathlib.Core.List.{List, ◌++◌}
+use mathlib.Core.List.{List}
 use Rattle.std.specs.Prelude.{Ok, Err}
 use Prim.Native.Nat.{ℕ, ◌*◌, ◌≤◌, ◌<◌}
-use native.Mathlib.Omega.{arith}
-use lib.ListN.{length, take, drop}
-use Rattle.least.specs.Lists.{flat}
+use lib.ListN.{length}
 use Rattle.refusals.specs.declared.Refusal.{Refusal}
 use Rattle.refusals.specs.declared.Refusal.TheVariants.{ResultsShort}
 use Rattle.equations.specs.Table.{rows}
-use Rattle.equations.specs.Analysis.{table_check, solved, results, results_by, analysis, Analyses}
+use Rattle.equations.specs.Analysis.{table_check, solved, results_by, analysis, Analyses}
 use Rattle.equations.specs.Answers.{Checked, Answer}
 use Rattle.equations.proofs.Checks.{results_short, results_fit, refused_1_to_3, refused_4, entered, results_by_lem}
 use Rattle.equations.proofs.Checks.{refused_5_or_6, refused_7_or_19, accepted}
-use Rattle.analysis.specs.Loops.{passed}
+use Rattle.analysis.specs.Inside.{passed}
 
 -- what the check of a table answers
 refused : (s : List ℕ) (c : Checked) (r : Refusal) → Err r ≡ passed s c → c ≡ Err r

@@ -1,6 +1,6 @@
 -- Laws of the responses that stand in an array: one row more.
 -- Assumes nothing.
-use mathlib.Core.Path.{◌≡◌, sym, ap, ◌∙◌}
+use mathlib.Core.Path.{◌≡◌, sym, ap}
 use mathlib.Core.List.{List, ◌++◌}
 use Rattle.std.specs.Prelude.{Ok}
 use Prim.Native.Nat.{ℕ, ◌+◌, ◌-◌, ◌*◌, ◌≤◌, ◌<◌}
@@ -11,14 +11,14 @@ use Rattle.std.proofs.Common.{get_or-take}
 use lib.Seq.{get_or-set_same, get_or-set_other}
 use Rattle.least.specs.Lists.{flat}
 use Rattle.least.proofs.Lists.{flat_same}
-use Rattle.equations.specs.Table.{rows, D}
+use Rattle.equations.specs.Table.{D}
 use Rattle.equations.specs.Hypertask.{response, value_of, E}
 use Rattle.equations.specs.Guest.{guest}
 use Rattle.equations.specs.Analysis.{three_of, results}
 use Rattle.equations.proofs.Bounds.{T≤, D≤, E≤D}
 use Rattle.equations.proofs.Jobs.{response≤, guest≤, offset_is}
 use Rattle.equations.proofs.Checks.{rows_start, rows_stop, rows_next, rows_end}
-use Rattle.analysis.specs.Loops.{nothing, at_row, Offsets, Hypertasks, Guests, three_at}
+use Rattle.analysis.specs.Inside.{nothing, at_row, Hypertasks, Guests, three_at}
 use Rattle.analysis.specs.declared.results.Responses.{Responses}
 
 -- what holds at n after a store there, and at each other place before it, holds at each

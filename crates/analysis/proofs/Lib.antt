@@ -1,3 +1,4 @@
+pub mod Seeking
 pub mod Rounded
 pub mod Ranges
 pub mod Positions

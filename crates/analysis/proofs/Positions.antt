@@ -3,11 +3,11 @@
 use mathlib.Core.Path.{◌≡◌, refl, sym, ap, subst, ◌∙◌}
 use mathlib.Core.List.{List}
 use mathlib.Core.Bool.{Bool, true, false}
-use mathlib.Core.Logic.{◌⊎◌, ⊎_elim}
+use mathlib.Core.Logic.{⊎_elim}
 use Prim.Native.Nat.{ℕ, ◌+◌, ◌*◌, ◌/◌, ◌≤◌, ◌<◌}
 use native.Mathlib.Omega.{arith}
 use lib.ListN.{length, get_or}
-use Rattle.std.specs.Prelude.{Option, None, Some, MatchOption, IsTrue, IfSome, IsSomeAnd}
+use Rattle.std.specs.Prelude.{Option, None, Some, MatchOption, IsTrue, IsSomeAnd}
 use Rattle.std.specs.List.{slice_get}
 use Rattle.std.specs.Iterator.Runs.{Run, SomeRun, EveryRun, AllItemsGive, IsFirstToGive, CallKeepsClosure, ItemsMapTo, IsChunksExactRun}
 use Rattle.std.specs.Iterator.Adapters.{IterYieldsInOrder}

@@ -1,8 +1,8 @@
 -- The searches of the definitions, from the own part and the end as the code has them.
 -- Assumes nothing.
-use mathlib.Core.Path.{◌≡◌, ap, ◌∙◌}
+use mathlib.Core.Path.{◌≡◌, ◌∙◌}
 use mathlib.Core.List.{List}
-use Prim.Native.Nat.{ℕ, suc, ◌+◌, ◌-◌, ◌*◌, ◌≤◌, ◌<◌}
+use Prim.Native.Nat.{ℕ, suc, ◌+◌, ◌-◌, ◌*◌, ◌<◌}
 use native.Mathlib.Nat.{sub-zero}
 use native.Mathlib.Omega.{arith}
 use Rattle.least.specs.Search.{first}
@@ -12,7 +12,7 @@ use Rattle.equations.specs.Table.{rows, T, D, C, K}
 use Rattle.equations.specs.Hypertask.{B, start_demand, start_side, start, E}
 use Rattle.equations.specs.Guest.{window_side, WA, WE}
 use Rattle.equations.proofs.Jobs.{one_less, window_same}
-use Rattle.analysis.specs.Loops.{offset_in, Offsets}
+use Rattle.analysis.specs.Inside.{offset_in, Offsets}
 use Rattle.analysis.specs.declared.results.Responses.{Responses}
 
 -- the start of the job with so many jobs before it

@@ -3,7 +3,7 @@ ghost use Rattle.std.specs.Prelude.{◌≡◌, ◌*◌, length};
 ghost use Rattle.least.specs.Search.{first_where};
 ghost use Rattle.equations.specs.Table.{rows};
 ghost use Rattle.equations.specs.Analysis.{bad_field, bad_deadline, table_check};
-ghost use Rattle.analysis.specs.Loops.{passed};
+ghost use Rattle.analysis.specs.Inside.{passed};
 
 use crate::table::Table;
 use refusals::Refusal;
@@ -22,8 +22,8 @@ fn bad_deadline(table: &[u32]) -> Option<usize>
     table.chunks_exact(4).position(|row| row[0] < row[1])
 }
 
-#[tactic(auto, using(crate::proofs::Shape::shape))]
 // The table, or refusal 1, 2 or 3.
+#[tactic(auto, using(crate::proofs::Shape::shape))]
 pub(crate) fn check(table: &[u32]) -> Result<Table<'_>, Refusal>
     ensures { result ≡ passed table.now (table_check table.now) }
 {

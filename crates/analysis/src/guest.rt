@@ -1,11 +1,13 @@
 // G of a task: the two windows over the request bounds.
+#![tactic(auto, using(crate::proofs::Limits::windows))]
+
 ghost use Rattle.std.specs.Prelude.{◌≡◌, ℕ, ◌+◌, ◌-◌, ◌*◌, ◌<◌, ◌≤◌, Option};
 ghost use Rattle.least.specs.Search.{first};
 ghost use Rattle.least.specs.Sums.{sum};
 ghost use Rattle.equations.specs.Table.{rows, T, C, K};
 ghost use Rattle.equations.specs.Guest.{begun_by_hypertask, begun_by_guest, bound, below, window_side, WA, WE, guest};
 ghost use Rattle.equations.proofs.Bounds.{window_never_falls};
-ghost use Rattle.analysis.specs.Loops.{offset_in, Offsets};
+ghost use Rattle.analysis.specs.Inside.{offset_in, Offsets};
 
 use crate::results::Responses;
 use crate::search::{Equation, least};
@@ -24,34 +26,31 @@ pub(crate) struct Guest<'a> {
 #[derive(Drop)]
 struct Window<'a> {
     guest: Guest<'a>,
-    own: u64,
-    ghost small: { own ≤ 2000000 },
+    own: u32,
 }
 
-#[tactic(auto, using(crate::proofs::Limits::windows), unfolding(equations::specs::Guest::begun_by_hypertask, equations::specs::Guest::begun_by_guest, equations::specs::Guest::bound, equations::specs::Guest::window_side, equations::specs::Guest::F))]
 impl Equation for Window<'_> {
     ghost side = { λ e. window_side e.guest.task.table.now (offset_in e.guest.found.now) e.guest.task.row e.own };
 
-    fn side(&self, w: u64) -> u64 {
-        self.own + (self.guest.task.demand_below(w) + self.guest.bounds_above(w))
+    #[tactic(auto, using(crate::proofs::Limits::windows), unfolding(equations::specs::Guest::window_side, equations::specs::Guest::F))]
+    fn side(&self, w: u32) -> u64 {
+        u64::from(self.own) + (self.guest.task.demand_below(w) + self.guest.bounds_above(w))
     }
 
     ghost never_falls = { λ e. window_never_falls e.guest.task.table.now (offset_in e.guest.found.now) e.guest.task.row e.own };
 }
 
-#[tactic(auto, using(crate::proofs::Limits::windows), unfolding(equations::specs::Guest::begun_by_hypertask, equations::specs::Guest::begun_by_guest, equations::specs::Guest::bound, equations::specs::Guest::window_side, equations::specs::Guest::F))]
 impl<'a> Guest<'a> {
     // E of row j.
-    fn e(&self, j: usize) -> u64
+    fn e(&self, j: usize) -> u32
         requires { j < rows self.now.task.table.now }
         ensures { result ≡ offset_in self.now.found.now j }
     {
-        u64::from(self.found[j].e)
+        self.found[j].e
     }
 
     // The sum of the request bounds of the rows above.
-    fn bounds_above(&self, w: u64) -> u64
-        requires { w ≤ 5000000 }
+    fn bounds_above(&self, w: u32) -> u64
         ensures { result ≡ sum (bound self.now.task.table.now (offset_in self.now.found.now) w) self.now.task.row }
     {
         (0..self.task.row)
@@ -60,7 +59,7 @@ impl<'a> Guest<'a> {
     }
 
     // WA(i)
-    fn window_begun_by_guest(&self) -> Option<u64>
+    fn window_begun_by_guest(&self) -> Option<u32>
         ensures { result ≡ WA self.now.task.table.now self.now.task.row }
     {
         let window = Window {
@@ -71,7 +70,7 @@ impl<'a> Guest<'a> {
     }
 
     // WE(i)
-    fn window_begun_by_hypertask(&self) -> Option<u64>
+    fn window_begun_by_hypertask(&self) -> Option<u32>
         ensures { result ≡ WE self.now.task.table.now self.now.task.row }
     {
         let window = Window {
@@ -82,7 +81,7 @@ impl<'a> Guest<'a> {
     }
 
     // G(i), or refusal 7 or 19 at its task.
-    pub(crate) fn response(&self) -> Result<u64, Refusal>
+    pub(crate) fn response(&self) -> Result<u32, Refusal>
         ensures { result ≡ guest self.now.task.table.now self.now.task.row }
     {
         let wa = self
@@ -96,36 +95,34 @@ impl<'a> Guest<'a> {
     }
 }
 
-#[tactic(auto, using(crate::proofs::Limits::windows), unfolding(equations::specs::Guest::begun_by_hypertask, equations::specs::Guest::begun_by_guest, equations::specs::Guest::bound, equations::specs::Guest::window_side, equations::specs::Guest::F))]
 impl<'a> Task<'a> {
     // The request bound that a hypertask begins.
-    fn begun_by_hypertask(&self, e: u64, w: u64) -> u64
-        requires { w ≤ 5000000 }
-        ensures { result ≡ begun_by_hypertask (T self.now.table.now self.now.row) (C self.now.table.now self.now.row) (K self.now.table.now self.now.row) e w }
+    #[tactic(auto, using(crate::proofs::Limits::windows), unfolding(equations::specs::Guest::begun_by_hypertask))]
+    fn begun_by_hypertask(&self, e: u32, w: u32) -> u64
+        ensures { let s = self.now.table.now in let i = self.now.row in result ≡ begun_by_hypertask (T s i) (C s i) (K s i) e w }
     {
         let after = self.t().saturating_sub(e);
         self.load(w.saturating_sub(after), self.c()) + self.load(w, self.k())
     }
 
     // The request bound that a guest begins.
-    fn begun_by_guest(&self, e: u64, w: u64) -> u64
-        requires { w ≤ 5000000 }
-        ensures { result ≡ begun_by_guest (T self.now.table.now self.now.row) (C self.now.table.now self.now.row) (K self.now.table.now self.now.row) e w }
+    #[tactic(auto, using(crate::proofs::Limits::windows), unfolding(equations::specs::Guest::begun_by_guest))]
+    fn begun_by_guest(&self, e: u32, w: u32) -> u64
+        ensures { let s = self.now.table.now in let i = self.now.row in result ≡ begun_by_guest (T s i) (C s i) (K s i) e w }
     {
         self.load(w, self.c()) + self.load(w.saturating_sub(e), self.k())
     }
 
     // The larger of the two.
-    fn bound(&self, e: u64, w: u64) -> u64
-        requires { w ≤ 5000000 }
+    #[tactic(auto, using(crate::proofs::Limits::windows), unfolding(equations::specs::Guest::bound))]
+    fn bound(&self, e: u32, w: u32) -> u64
         ensures { result ≡ bound self.now.table.now (λ _. e) w self.now.row }
     {
         self.begun_by_hypertask(e, w).max(self.begun_by_guest(e, w))
     }
 
     // The sum of up(w/T)·K over the rows below.
-    fn demand_below(&self, w: u64) -> u64
-        requires { w ≤ 5000000 }
+    fn demand_below(&self, w: u32) -> u64
         ensures { result ≡ below self.now.table.now self.now.row w }
     {
         (self.row + 1..self.rows())

@@ -15,8 +15,8 @@ ghost use Rattle.equations.specs.Analysis.{solved, results_by, Analyses};
 use refusals::Refusal;
 use table::Table;
 
-#[tactic(auto, using(crate::proofs::Entered::answers))]
 // R, E and G of each task of a sound table into the lent results, or the first refusal of 5, 6, 7 and 19.
+#[tactic(auto, using(crate::proofs::Entered::answers))]
 fn solve(table: &Table<'_>, lent: &mut [u32]) -> Result<usize, Refusal>
     requires { 3 * rows table.now ≤ length lent.old }
     ensures value { result ≡ solved table.now }
@@ -29,9 +29,9 @@ fn solve(table: &Table<'_>, lent: &mut [u32]) -> Result<usize, Refusal>
     Ok(n)
 }
 
-#[tactic(auto, using(crate::proofs::Entered::answers))]
 // The analysis of a table. Accepted: R, E and G of each task stand at the front of the lent results, and nothing past them changed.
 // Refused: nothing changed.
+#[tactic(auto, using(crate::proofs::Entered::answers))]
 pub fn analyse(table: &[u32], results: &mut [u32]) -> Result<usize, Refusal>
     ensures { Analyses table.now results.old result results.new }
 {

@@ -2,7 +2,7 @@
 ghost use Rattle.std.specs.Prelude.{◌≡◌, ◌+◌, ◌*◌, ◌≤◌, ◌++◌, length, drop, Ok, MatchResult};
 ghost use Rattle.equations.specs.Table.{rows, Sound};
 ghost use Rattle.equations.specs.Analysis.{hypertask_check, guest_check};
-ghost use Rattle.analysis.specs.Loops.{Hypertasks, Guests, three_at};
+ghost use Rattle.analysis.specs.Inside.{Hypertasks, Guests, three_at};
 ghost use Rattle.least.specs.Lists.{flat};
 
 use crate::guest::Guest;
@@ -10,15 +10,15 @@ use crate::table::Table;
 use refusals::Refusal;
 
 // R, E and G of a task.
-#[derive(Clone, Copy)]
+#[derive(Clone, Copy, Debug, PartialEq, Eq)]
 pub(crate) struct Responses {
     pub r: u32,
     pub e: u32,
     pub g: u32,
 }
 
-#[tactic(auto, using(crate::proofs::Found::rowwise), unfolding(equations::specs::Analysis::hypertask_check))]
 // R and E of each row, or the first refusal of 5 and 6.
+#[tactic(auto, using(crate::proofs::Found::rowwise), unfolding(equations::specs::Analysis::hypertask_check))]
 pub(crate) fn hypertasks(table: &Table<'_>) -> Result<[Responses; 32], Refusal>
     ensures { MatchResult result
         (λ found. (hypertask_check table.now ≡ Ok tt) × Hypertasks table.now found (rows table.now))
@@ -29,16 +29,16 @@ pub(crate) fn hypertasks(table: &Table<'_>) -> Result<[Responses; 32], Refusal>
         let task = table.task(i);
         let r = task.response()?;
         found[i] = Responses {
-            r: r as u32,
-            e: (task.d() - r) as u32,
+            r,
+            e: task.d() - r,
             g: 0,
         };
     }
     Ok(found)
 }
 
-#[tactic(auto, using(crate::proofs::Found::rowwise), unfolding(equations::specs::Analysis::guest_check))]
 // G of each row, or the first refusal of 7 and 19.
+#[tactic(auto, using(crate::proofs::Found::rowwise), unfolding(equations::specs::Analysis::guest_check))]
 pub(crate) fn guests(table: &Table<'_>, found: &mut [Responses; 32]) -> Result<(), Refusal>
     requires { Hypertasks table.now found.old (rows table.now) }
     ensures value { result ≡ guest_check table.now }
@@ -49,8 +49,7 @@ pub(crate) fn guests(table: &Table<'_>, found: &mut [Responses; 32]) -> Result<(
             task: table.task(i),
             found: &*found,
         };
-        let g = guest.response()?;
-        found[i].g = g as u32;
+        found[i].g = guest.response()?;
     }
     Ok(())
 }

@@ -7,17 +7,16 @@ pub(crate) trait Equation {
     ghost side: { Self → ℕ → ℕ };
 
     // f(t)
-    fn side(&self, t: u64) -> u64
-        requires { t ≤ 5000000 }
+    fn side(&self, t: u32) -> u64
         ensures { result ≡ side self.now t };
 
     ghost never_falls: { (e : Self) → NeverFalls (side e) };
 }
 
 // The least solution that is `from` or more and below `end`: t is set to f(t) until it stays or reaches `end`.
-pub(crate) fn least<E: Equation>(equation: &E, from: u64, end: u64) -> Option<u64>
-    requires rises { from ≤ E.side equation.now from }
-    requires small { end ≤ 5000001 }
+#[tactic(auto, using(crate::proofs::Seeking::seeking))]
+pub(crate) fn least<E: Equation>(equation: &E, from: u32, end: u32) -> Option<u32>
+    requires { from ≤ E.side equation.now from }
     ensures { result ≡ first (E.side equation.now) from (end - from) }
 {
     if end <= from {
@@ -26,12 +25,12 @@ pub(crate) fn least<E: Equation>(equation: &E, from: u64, end: u64) -> Option<u6
     let mut t = from;
     loop {
         let next = equation.side(t);
-        if next == t {
+        if next == u64::from(t) {
             return Some(t);
         }
-        if end <= next {
+        if u64::from(end) <= next {
             return None;
         }
-        t = next;
+        t = next as u32;
     }
 }

@@ -1,5 +1,5 @@
 // A sound table and its rows, and what a row asks for within some ticks.
-ghost use Rattle.std.specs.Prelude.{◌≡◌, ℕ, ◌+◌, ◌*◌, ◌<◌, ◌≤◌, get_or};
+ghost use Rattle.std.specs.Prelude.{◌≡◌, ◌*◌, ◌<◌, ◌≤◌};
 ghost use Rattle.least.specs.Sums.{up};
 ghost use Rattle.equations.specs.Table.{rows, T, D, C, K, Sound};
 ghost use Rattle.equations.specs.Hypertask.{demand};
@@ -55,13 +55,12 @@ impl<'a> Table<'a> {
 // A task: a row of a sound table.
 #[derive(Clone, Copy)]
 pub(crate) struct Task<'a> {
-    pub(crate) table: &'a [u32],
+    table: &'a [u32],
     pub(crate) row: usize,
     pub ghost sound: { Sound table.now },
     pub ghost in_table: { row < rows table.now },
 }
 
-#[tactic(auto, using(crate::proofs::Limits::limits, crate::proofs::Rounded::div_ceil_is_up), unfolding(equations::specs::Hypertask::demand))]
 impl<'a> Task<'a> {
     // Another row of its table.
     pub(crate) fn at(&self, row: usize) -> Task<'a>
@@ -81,54 +80,45 @@ impl<'a> Task<'a> {
         self.table.len() / 4
     }
 
-    // One of its four fields.
-    fn field(&self, place: usize) -> u64
-        requires { place < 4 }
-        ensures { result ≡ get_or self.now.table.now (4 * self.now.row + place) 0 }
-    {
-        u64::from(self.table[4 * self.row + place])
-    }
-
     // T, its period.
-    pub(crate) fn t(&self) -> u64
+    pub(crate) fn t(&self) -> u32
         ensures { result ≡ T self.now.table.now self.now.row }
     {
-        self.field(0)
+        self.table[4 * self.row]
     }
 
     // D, its deadline.
-    pub(crate) fn d(&self) -> u64
+    pub(crate) fn d(&self) -> u32
         ensures { result ≡ D self.now.table.now self.now.row }
     {
-        self.field(1)
+        self.table[4 * self.row + 1]
     }
 
     // C, the ticks of its guest part at most.
-    pub(crate) fn c(&self) -> u64
+    pub(crate) fn c(&self) -> u32
         ensures { result ≡ C self.now.table.now self.now.row }
     {
-        self.field(2)
+        self.table[4 * self.row + 2]
     }
 
     // K, the ticks of its hypertask at most.
-    pub(crate) fn k(&self) -> u64
+    pub(crate) fn k(&self) -> u32
         ensures { result ≡ K self.now.table.now self.now.row }
     {
-        self.field(3)
+        self.table[4 * self.row + 3]
     }
 
     // So many ticks for each period begun within w.
-    pub(crate) fn load(&self, w: u64, ticks: u64) -> u64
-        requires { (ticks ≤ 1000000) × (w ≤ 5000000) }
-        ensures value { result ≡ up w (T self.now.table.now self.now.row) * ticks }
-        ensures small { result ≤ 5000001000000 }
+    #[tactic(auto, using(crate::proofs::Limits::limits))]
+    pub(crate) fn load(&self, w: u32, ticks: u32) -> u64
+        ensures { result ≡ up w (T self.now.table.now self.now.row) * ticks }
     {
-        w.div_ceil(self.t()) * ticks
+        u64::from(w.div_ceil(self.t())) * u64::from(ticks)
     }
 
     // up(w/T)·K
-    pub(crate) fn demand(&self, w: u64) -> u64
-        requires { w ≤ 5000000 }
+    #[tactic(auto, using(crate::proofs::Limits::limits), unfolding(equations::specs::Hypertask::demand))]
+    pub(crate) fn demand(&self, w: u32) -> u64
         ensures { result ≡ demand self.now.table.now w self.now.row }
     {
         self.load(w, self.k())

@@ -1,5 +1,4 @@
 use native.Mathlib.Omega.{arith}
-use Rattle.equations.specs.Table.{rows}
 use Rattle.analysis.proofs.Found.{results_are}
 use Rattle.analysis.proofs.solve.Goals as goal
 

@@ -10,7 +10,7 @@ pub loop-i-preserved : goal.loop-i-preserved
 loop-i-preserved c =
     let s = c.args.table.now in
     let l = c.loop-i in
-    let found : guest s l.i ≡ Ok c.in_ok-g.g = cc (c.in_ok-g.ensures) in (
+    let found : guest s l.i ≡ Ok c.in_ok-found.field-0 = cc (c.in_ok-found.ensures) in (
       l.invariant.0,
       rows_next _ _ l.i _ l.invariant.1 (omega arith) found,
       hypertasks_keep s l.found l.i (omega arith) _ _ l.invariant.2,

@@ -3,7 +3,7 @@ use Prim.Native.Nat.{◌-◌}
 use Rattle.equations.specs.Table.{rows}
 use Rattle.equations.specs.Guest.{guest}
 use Rattle.equations.proofs.Checks.{Rowwise}
-use Rattle.analysis.specs.Loops.{Hypertasks, Guests}
+use Rattle.analysis.specs.Inside.{Hypertasks, Guests}
 use Rattle.analysis.proofs.results.guests.Given as goal
 
 abbrev pub invariant-loop-i : goal.invariant-loop-i

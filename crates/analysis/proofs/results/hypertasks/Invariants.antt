@@ -3,7 +3,7 @@ use Prim.Native.Nat.{◌-◌}
 use Rattle.equations.specs.Table.{rows}
 use Rattle.equations.specs.Hypertask.{response}
 use Rattle.equations.proofs.Checks.{Rowwise}
-use Rattle.analysis.specs.Loops.{Hypertasks}
+use Rattle.analysis.specs.Inside.{Hypertasks}
 use Rattle.analysis.proofs.results.hypertasks.Given as goal
 
 abbrev pub invariant-loop-i : goal.invariant-loop-i

@@ -4,7 +4,7 @@ use native.Mathlib.Omega.{arith}
 use Rattle.std.proofs.lemmas.Slice.{put_mid-paste}
 use Rattle.least.specs.Lists.{flat}
 use Rattle.least.proofs.Lists.{block_more}
-use Rattle.analysis.specs.Loops.{three_at}
+use Rattle.analysis.specs.Inside.{three_at}
 use Rattle.analysis.proofs.results.write.Goals as goal
 
 pub loop-i-init : goal.loop-i-init

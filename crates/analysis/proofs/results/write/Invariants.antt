@@ -3,7 +3,7 @@ use mathlib.Core.List.{◌++◌}
 use Prim.Native.Nat.{◌*◌}
 use lib.ListN.{length, drop}
 use Rattle.least.specs.Lists.{flat}
-use Rattle.analysis.specs.Loops.{three_at}
+use Rattle.analysis.specs.Inside.{three_at}
 use Rattle.analysis.proofs.results.write.Given as goal
 
 abbrev pub invariant-loop-i : goal.invariant-loop-i

@@ -2,7 +2,7 @@ use native.Mathlib.Omega.{arith}
 use borrow.Author.Rules.{rules}
 use Rattle.equations.specs.Guest.{bound}
 use Rattle.equations.proofs.Bounds.{bounds≤}
-use Rattle.analysis.specs.Loops.{offset_in}
+use Rattle.analysis.specs.Inside.{offset_in}
 use Rattle.analysis.proofs.Ranges.{above_fits, above_is}
 use Rattle.analysis.proofs.guest.Guest.bounds_above.Goals as goal
 
@@ -12,7 +12,7 @@ sum-requires-clause-fits c =
     let task = c.args.self.now.task in
     let e = offset_in c.args.self.now.found.now in
     above_fits _ _ _ (bound task.table.now e c.args.w) task.row (λ x y q k. search rules) c.map.ensures.runs _
-    (omega (arith, bounds≤ task.table.now task.sound e c.args.w task.row (omega (arith, task.in_table)) c.requires))
+    (omega (arith, bounds≤ task.table.now task.sound e c.args.w task.row (omega (arith, task.in_table))))
 
 pub returns : goal.returns
 unfolding bound

@@ -9,7 +9,7 @@ pub sum-requires-clause-fits : goal.sum-requires-clause-fits
 sum-requires-clause-fits c =
     let task = c.args.self.now in
     above_fits _ _ _ (demand task.table.now c.args.t) task.row (λ x y q k. search rules) c.map.ensures.runs _
-    (omega (arith, demands≤ task.table.now task.sound c.args.t task.row (omega (arith, task.in_table)) c.requires))
+    (omega (arith, demands≤ task.table.now task.sound c.args.t task.row (omega (arith, task.in_table))))
 
 pub returns : goal.returns
 returns c =

@@ -16,7 +16,7 @@ sum-requires-clause-fits c =
     let s = task.table.now in
     let n : ℕ = rows s - (task.row + 1) in
     sum_fits _ _ _ _ (demand s c.args.w) _ n (omega arith) (λ k. refl) (λ x y q k. search rules) c.map.ensures.runs _
-    (omega (arith, below≤ s task.sound c.args.w task.row task.in_table c.requires))
+    (omega (arith, below≤ s task.sound c.args.w task.row task.in_table))
 
 pub returns : goal.returns
 unfolding below

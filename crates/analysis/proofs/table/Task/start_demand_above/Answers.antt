@@ -9,7 +9,7 @@ pub sum-requires-clause-fits : goal.sum-requires-clause-fits
 sum-requires-clause-fits c =
     let task = c.args.self.now in
     above_fits _ _ _ (start_demand task.table.now c.args.w) task.row (λ x y q k. search rules) c.map.ensures.runs _
-    (omega (arith, start_demands≤ task.table.now task.sound c.args.w task.row (omega (arith, task.in_table)) c.requires))
+    (omega (arith, start_demands≤ task.table.now task.sound c.args.w task.row (omega (arith, task.in_table))))
 
 pub returns : goal.returns
 returns c =
