@@ -3,15 +3,18 @@ use mathlib.Core.Path.{◌≡◌, refl, ◌∙◌, ap, sym}
 use mathlib.Core.Bool.{Bool, true, false, not, ◌&&◌, cond, true≢false}
 use mathlib.Core.List.{List, [], ◌∷◌, ◌++◌}
 use Prim.Native.Nat.{ℕ, zero, suc, ◌+◌, ◌-◌, ◌≤◌, ◌<◌}
-use native.Mathlib.Numerals.{add-one}
 use native.Mathlib.Omega.{arith}
 use lib.Dec.{ltb}
-use lib.ListN.{length, get_or, take, drop, set}
-use lib.Seq.{drop-cons, drop-nil, take-nil, take-suc, append_snoc, length-take-le, set_at}
-use borrow.Author.Tests.{ltb-true, ltb-false, lt-ltb}
+use lib.ListN.{length, get_or, take, drop}
+use lib.Seq.{drop-nil, take-nil}
+use borrow.Author.Tests.{ltb-true, ltb-false}
+use Rattle.std.specs.Prelude.{Some, IfSome}
+use Rattle.std.specs.List.{list_all}
 use Rattle.machine.specs.declared.Row.{Row}
 use Rattle.machine.specs.Rows.{no_row, Found, at, none, first_from, first, or_else, map_from, every, how_many}
-use Rattle.machine.specs.OnePass.{place, is_none, first_kept}
+use Rattle.machine.specs.WellFormed.{is_blank}
+use Rattle.machine.specs.OnePass.{place, found, is_none, first_kept}
+use Rattle.machine.proofs.Tests.{both}
 
 -- what a place that was found has
 pub record Placed (p : ℕ → Row → Bool) (l : List Row) (j i : ℕ) : Type 0 where
@@ -91,27 +94,32 @@ pub is_none_lem : (f : Found) → is_none f ≡ true → f ≡ none
 is_none_lem (at i) h = absurd (true≢false (sym h))
 is_none_lem none h = refl
 
--- what was found, as a number
-
-pub place_cond : (b : Bool) (i : ℕ) (f : Found) → place (cond b (at i) f) ≡ cond b i (place f)
-place_cond true i f = refl
-place_cond false i f = refl
-
 -- of 32 places, a place that was found is below 32
 pub below : (p : ℕ → Row → Bool) (rows : List Row) → length rows ≡ 32 → (i : ℕ) → first p rows ≡ at i → i < 32
 below p rows l i e = let t = found_at p rows i e in omega arith
 
-pub place_found : (f : Found) (x : ℕ) → ((i : ℕ) → f ≡ at i → i < 32) → x ≡ place f → x < 32 → f ≡ at x
-place_found (at i) x h e lt = rw e
-place_found none x h e lt = absurd (omega arith)
+-- p holds of every row, in the library's word
+pub every_law : (p : Row → Bool) (l : List Row) → every p l ≡ list_all p l
+unfolding every
+every_law p [] = refl
+every_law p (r ∷ rs) = rw (every_law p rs)
 
-pub place_none : (f : Found) (x : ℕ) → ((i : ℕ) → f ≡ at i → i < 32) → x ≡ place f → 32 ≤ x → f ≡ none
-place_none (at i) x h e le = let z = h i refl in absurd (omega arith)
-place_none none x h e le = refl
+-- a place, and what was found
 
-pub or_place : (f g : Found) → ((i : ℕ) → f ≡ at i → i < 32) → place (or_else f g) ≡ cond (ltb (place f) 32) (place f) (place g)
-or_place (at i) g h = rw (lt-ltb i 32 (h i refl))
-or_place none g h = refl
+pub found_place : (f : Found) → found (place f) ≡ f
+found_place (at i) = refl
+found_place none = refl
+
+pub place_at : (f : Found) (i : ℕ) → Some i ≡ place f → f ≡ at i
+place_at (at j) i h = let z : i ≡ j = cc in rw z
+place_at none i h = cc
+
+pub place_below : (p : ℕ → Row → Bool) (l : List Row) → length l ≤ 32 → IfSome (place (first p l)) (λ i. i < 32)
+place_below p l h = go (first p l) refl
+  where
+    go : (f : Found) → first p l ≡ f → IfSome (place f) (λ i. i < 32)
+    go (at i) e = let t = found_at p l i e in omega arith
+    go none e = tt
 
 -- every row of a table and every place past it, as one search
 pub every_place : (p q : Row → Bool) (n i : ℕ) (l : List Row)
@@ -144,43 +152,68 @@ every_place p q n i (r ∷ rs) = go (ltb i n) refl (every_place p q n (suc i) rs
         let y : n - suc i ≡ 0 = omega arith in
         rw (z, e) (past (q r) (rw y at ih))
 
--- one row more at the end
-
-pub first_more : (p : ℕ → Row → Bool) (j : ℕ) (l : List Row) (r : Row)
-    → first_from p j (l ++ (r ∷ [])) ≡ or_else (first_from p j l) (cond (p (j + length l) r) (at (j + length l)) none)
+-- the first of which p holds is found
+pub is_first : (p : ℕ → Row → Bool) (l : List Row) (j k : ℕ) → k < length l → p (j + k) (get_or l k no_row) ≡ true
+    → ((n : ℕ) → n < k → p (j + n) (get_or l n no_row) ≡ false) → first_from p j l ≡ at (j + k)
 unfolding first_from
-first_more p j [] r = let z : j + 0 ≡ j = omega arith in rw z
-first_more p j (x ∷ xs) r =
+is_first p [] j k h e f = absurd (omega arith)
+is_first p (r ∷ rs) j zero h e f =
+    let z : j + 0 ≡ j = omega arith in
+    let y : p j r ≡ true = rw z at e in
+    rw (y, z)
+is_first p (r ∷ rs) j (suc k) h e f =
+    let z : j + 0 ≡ j = omega arith in
+    let y : p j r ≡ false = rw z at (f 0 (omega arith)) in
+    let x : j + suc k ≡ suc j + k = omega arith in
+    rw (y, x)
+    (is_first p rs (suc j) k (omega arith) (rw x at e)
+    (λ n lt. let w : j + suc n ≡ suc j + n = omega arith in rw w at (f (suc n) (omega arith))))
+
+-- a search over rows and those after them
+
+first_append : (p : ℕ → Row → Bool) (j : ℕ) (l rs : List Row)
+    → first_from p j (l ++ rs) ≡ or_else (first_from p j l) (first_from p (j + length l) rs)
+unfolding first_from
+first_append p j [] rs = let z : j + 0 ≡ j = omega arith in rw z
+first_append p j (x ∷ xs) rs =
     let z : suc j + length xs ≡ j + suc (length xs) = omega arith in
-    go (p j x) (rw z at (first_more p (suc j) xs r))
+    go (p j x) (rw z at (first_append p (suc j) xs rs))
   where
     end : Found
-    end = cond (p (j + suc (length xs)) r) (at (j + suc (length xs))) none
+    end = first_from p (j + suc (length xs)) rs
 
-    go : (b : Bool) → first_from p (suc j) (xs ++ (r ∷ [])) ≡ or_else (first_from p (suc j) xs) end
-        → cond b (at j) (first_from p (suc j) (xs ++ (r ∷ []))) ≡ or_else (cond b (at j) (first_from p (suc j) xs)) end
+    go : (b : Bool) → first_from p (suc j) (xs ++ rs) ≡ or_else (first_from p (suc j) xs) end
+        → cond b (at j) (first_from p (suc j) (xs ++ rs)) ≡ or_else (cond b (at j) (first_from p (suc j) xs)) end
     go true e = refl
     go false e = e
 
-first_end : (p : ℕ → Row → Bool) (l : List Row) (r : Row)
-    → first p (l ++ (r ∷ [])) ≡ or_else (first p l) (cond (p (length l) r) (at (length l)) none)
-first_end p l r = let z : 0 + length l ≡ length l = omega arith in rw z at (first_more p 0 l r)
+-- one row more
+pub place_more : (p : ℕ → Row → Bool) (l : List Row) (r : Row)
+    → place (first p (l ++ (r ∷ []))) ≡ first_kept (place (first p l)) (p (length l) r) (length l)
+unfolding first_from
+place_more p l r =
+    let z : 0 + length l ≡ length l = omega arith in
+    ap place (rw z at (first_append p 0 l (r ∷ []))) ∙ go (first p l) (p (length l) r)
+  where
+    go : (f : Found) (b : Bool) → place (or_else f (cond b (at (length l)) none)) ≡ first_kept (place f) b (length l)
+    go (at k) true = refl
+    go (at k) false = refl
+    go none true = refl
+    go none false = refl
 
-pub none_more : (p : ℕ → Row → Bool) (l : List Row) (r : Row) → first p l ≡ none → p (length l) r ≡ false → first p (l ++ (r ∷ [])) ≡ none
-none_more p l r h e = first_end p l r ∙ rw (h, e)
+-- blank places after the rows
+module _ (p : ℕ → Row → Bool) (fails : (i : ℕ) (r : Row) → is_blank r ≡ true → p i r ≡ false) where
+  none_blank : (j : ℕ) (l : List Row) → every is_blank l ≡ true → first_from p j l ≡ none
+  unfolding first_from every
+  none_blank j [] h = refl
+  none_blank j (r ∷ rs) h = let t = both (is_blank r) (every is_blank rs) h in rw (fails j r t.0) (none_blank (suc j) rs t.1)
 
--- what was found first stays
-kept_or : (b : Bool) (f : Found) (i : ℕ) → ((k : ℕ) → f ≡ at k → k < 32)
-    → place (or_else f (cond b (at i) none)) ≡ cond b (first_kept (place f) i) (place f)
-kept_or true (at k) i h = rw (lt-ltb k 32 (h k refl))
-kept_or false (at k) i h = refl
-kept_or true none i h = refl
-kept_or false none i h = refl
-
-pub place_more : (p : ℕ → Row → Bool) (l : List Row) (r : Row) → length l ≤ 32
-    → place (first p (l ++ (r ∷ []))) ≡ cond (p (length l) r) (first_kept (place (first p l)) (length l)) (place (first p l))
-place_more p l r h =
-    ap place (first_end p l r) ∙ kept_or (p (length l) r) (first p l) (length l) (λ k e. let t = found_at p l k e in omega arith)
+  pub first_blank : (l rs : List Row) → every is_blank rs ≡ true → first p (l ++ rs) ≡ first p l
+  first_blank l rs h = first_append p 0 l rs ∙ rw (none_blank (0 + length l) rs h) (go (first p l))
+    where
+      go : (f : Found) → or_else f none ≡ f
+      go (at i) = refl
+      go none = refl
 
 -- counts
 
@@ -210,6 +243,14 @@ count_take p (r ∷ rs) (suc k) = go (p r) (count_take p rs k)
     go true h = omega arith
     go false h = h
 
+-- blank places after the rows
+pub count_blank : (p : Row → Bool) → ((r : Row) → is_blank r ≡ true → p r ≡ false) → (l rs : List Row) → every is_blank rs ≡ true
+    → how_many p (l ++ rs) ≡ how_many p l
+unfolding how_many every
+count_blank p fails [] [] h = refl
+count_blank p fails [] (r ∷ rs) h = let t = both (is_blank r) (every is_blank rs) h in rw (fails r t.0) (count_blank p fails [] rs t.1)
+count_blank p fails (x ∷ xs) rs h = rw (count_blank p fails xs rs h)
+
 -- none or some, as a search says
 module _ (p : ℕ → Row → Bool) (q : Row → Bool) (same : (i : ℕ) (r : Row) → p i r ≡ q r) where
   pub none_found : (i : ℕ) (l : List Row) → first_from p i l ≡ none → how_many q l ≡ 0
@@ -231,38 +272,17 @@ module _ (p : ℕ → Row → Bool) (q : Row → Bool) (same : (i : ℕ) (r : Ro
 
 -- maps over the rows
 
-map_more : (f : ℕ → Row → Row) (j : ℕ) (l : List Row) (r : Row) → map_from f j (l ++ (r ∷ [])) ≡ map_from f j l ++ (f (j + length l) r ∷ [])
+pub map_append : (f : ℕ → Row → Row) (j : ℕ) (l rs : List Row) → map_from f j (l ++ rs) ≡ map_from f j l ++ map_from f (j + length l) rs
 unfolding map_from
-map_more f j [] r = let z : j + 0 ≡ j = omega arith in rw z
-map_more f j (x ∷ xs) r =
-    let z : suc j + length xs ≡ j + suc (length xs) = omega arith in
-    ap (λ l. f j x ∷ l) (rw z at (map_more f (suc j) xs r))
+map_append f j [] rs = let z : j + 0 ≡ j = omega arith in rw z
+map_append f j (x ∷ xs) rs =
+    let z : j + suc (length xs) ≡ suc j + length xs = omega arith in
+    ap (λ l. f j x ∷ l) (rw z (map_append f (suc j) xs rs))
 
 pub map_length : (f : ℕ → Row → Row) (l : List Row) (i : ℕ) → length (map_from f i l) ≡ length l
 unfolding map_from
 map_length f [] i = refl
 map_length f (r ∷ rs) i = ap suc (map_length f rs (suc i))
-
--- a map in place: what is done, and what is left
-module _ (f : ℕ → Row → Row) (rows next : List Row) (i : ℕ) (some : i < length rows) (so_far : next ≡ map_from f 0 (take i rows) ++ drop i rows) where
-  left : length (map_from f 0 (take i rows)) ≡ i
-  left = map_length f (take i rows) 0 ∙ length-take-le i rows (omega arith)
-
-  cut : next ≡ map_from f 0 (take i rows) ++ get_or rows i no_row ∷ drop (suc i) rows
-  cut = so_far ∙ rw (drop-cons rows i no_row some)
-
-  done : map_from f 0 (take i rows) ++ f i (get_or rows i no_row) ∷ drop (suc i) rows ≡ map_from f 0 (take (i + 1) rows) ++ drop (i + 1) rows
-  done =
-      let k : length (take i rows) ≡ i = length-take-le i rows (omega arith) in
-      let n : 0 + length (take i rows) ≡ i = omega arith in
-      rw (add-one, take-suc rows i no_row some, map_more f 0 (take i rows) (get_or rows i no_row), n, append_snoc)
-
-  pub map_stores : (q : Row) → q ≡ f i (get_or rows i no_row) → set next i q ≡ map_from f 0 (take (i + 1) rows) ++ drop (i + 1) rows
-  map_stores q e = rw (cut, set_at (map_from f 0 (take i rows)) (get_or rows i no_row) (drop (suc i) rows) q i left, e) done
-
-  -- a row that f doesn't change isn't written
-  pub map_keeps : get_or rows i no_row ≡ f i (get_or rows i no_row) → next ≡ map_from f 0 (take (i + 1) rows) ++ drop (i + 1) rows
-  map_keeps e = cut ∙ ap (λ r. map_from f 0 (take i rows) ++ r ∷ drop (suc i) rows) e ∙ done
 
 pub map_map : (f g : ℕ → Row → Row) (i : ℕ) (l : List Row) → map_from g i (map_from f i l) ≡ map_from (λ j r. g j (f j r)) i l
 unfolding map_from

@@ -1,30 +1,31 @@
--- The pass decides as refusals 8 to 12 do, and in an accepted tick the rows that it leaves are the rows after steps 1 and 2.
+-- The tick decides as refusals 8 to 12 do, and where it is taken the pass leaves the rows as they are after steps 1 and 2.
 -- Assumes nothing.
 use mathlib.Core.Path.{◌≡◌, refl, ◌∙◌, ap, sym}
 use mathlib.Core.Bool.{Bool, true, false, not, ◌&&◌, ◌||◌, cond, true≢false}
-use mathlib.Core.List.{List, [], ◌∷◌, append-nil}
+use mathlib.Core.List.{List, [], ◌∷◌, ◌++◌}
 use Prim.Native.Nat.{ℕ, suc, ◌+◌, ◌-◌, ◌≤◌, ◌<◌, ◌^◌}
 use native.Mathlib.Omega.{arith}
 use lib.Dec.{leb, ltb, eqb}
-use lib.ListN.{get_or, take, drop_of_length-le}
-use lib.Seq.{take_all}
-use borrow.Author.Tests.{lt-ltb, le-leb}
+use lib.ListN.{length, get_or, take, drop, length-append, length-drop}
+use lib.Seq.{length-take-le}
+use borrow.Author.Tests.{leb-true, le-leb}
+use Rattle.std.specs.Prelude.{Option, Some, None, IfSome, Result, Ok, Err}
+use Rattle.std.proofs.lemmas.List.{take-append-drop}
 use Rattle.refusals.specs.declared.Refusal.{Refusal}
 use Rattle.machine.specs.declared.Stage.{Stage}
 use Rattle.machine.specs.declared.Row.{Row}
 use Rattle.machine.specs.declared.Machine.{Machine}
+use Rattle.machine.specs.declared.Taken.{Taken}
 use Rattle.machine.specs.declared.Seen.{Seen}
-use Rattle.machine.specs.declared.Judged.{Judged}
-use Rattle.machine.specs.Rows.{no_row, in_mask, Found, at, none, map_from, how_many, is_hyper, has_budget}
-use Rattle.machine.specs.WellFormed.{begun_row, well_formed}
-use Rattle.machine.specs.TickRule.{past_last, too_soon, while_hyper, Verdict, refused, accepted, verdict, enforced, chosen, turned}
-use Rattle.machine.specs.OnePass.{place, is_due, turned_row, passed_row, seen_in, past_from, chosen_by, or_refused, judged_by}
-use Rattle.machine.proofs.Tests.{and_true, not_leb}
-use Rattle.machine.proofs.Searches.{below, place_found, place_none}
-use Rattle.machine.proofs.Mask.{past_law}
-use Rattle.machine.proofs.Verdicts.{well_law, formed, past_in, soon_in, hyper_in, passed}
-use Rattle.machine.proofs.Pass.{Free, Passing}
-use Rattle.machine.proofs.Choice.{Taking, taking_next, turned_law, turned_length, arrives_law, chosen_law, chosen_runs}
+use Rattle.machine.specs.Rows.{no_row, in_mask, Found, at, none, first_from, first, map_from, every, is_hyper, has_budget}
+use Rattle.machine.specs.WellFormed.{row_fits, is_blank, one_begun, well_formed}
+use Rattle.machine.specs.TickRule.{past_last, too_soon, while_hyper, Verdict, refused, accepted, verdict, enforced, begun, waiting, ready, chosen, turned, ran_on, taken, step_of}
+use Rattle.machine.specs.OnePass.{place, found, MayRun, is_due, turned_row, places_fit, seen_in, chosen_by, or_refused, judged_by}
+use Rattle.machine.proofs.Tests.{both, first_fails, and_true, and_false, not_leb, blank_never}
+use Rattle.machine.proofs.Searches.{place_below, place_at, found_place, first_blank, none_at, map_append, map_length}
+use Rattle.machine.proofs.Mask.{past_same}
+use Rattle.machine.proofs.Verdicts.{formed, past_in, soon_in, hyper_in, passed}
+use Rattle.machine.proofs.Choice.{turned_law, turned_length, chosen_law, chosen_runs}
 
 -- a row that is neither in the mask nor due stays
 not_enforced : (clock k e : ℕ) (s : Stage) → is_due clock e s ≡ false → enforced clock k e s ≡ s
@@ -41,181 +42,224 @@ row_stays clock mask i r h = go (in_mask mask i) refl
     go true e = let z : true ≡ false = rw e at h in absurd (true≢false z)
     go false e = let q : is_due clock r.e r.stage ≡ false = rw e at h in rw (e, not_enforced clock r.k r.e r.stage q)
 
--- the rows as the pass leaves them
-pub passed_rows : (clock count mask i : ℕ) (l : List Row) → Taking clock count mask i l
-    → map_from (passed_row clock count mask) i l ≡ map_from (turned_row clock mask) i l
-unfolding map_from passed_row
-passed_rows clock count mask i [] t = refl
-passed_rows clock count mask i (r ∷ rs) t =
-    rw (arrives_law clock count mask i r rs t, passed_rows clock count mask (suc i) rs (taking_next clock count mask i r rs t))
-    (go (in_mask mask i || is_due clock r.e r.stage) refl)
+-- blank places that no task in the mask names stay
+blank_stays : (clock mask i : ℕ) (l : List Row) → every is_blank l ≡ true → ((k : ℕ) → k < length l → in_mask mask (i + k) ≡ false)
+    → map_from (turned_row clock mask) i l ≡ l
+unfolding map_from every
+blank_stays clock mask i [] h f = refl
+blank_stays clock mask i (r ∷ rs) h f =
+    let t = both (is_blank r) (every is_blank rs) h in
+    let z : i + 0 ≡ i = omega arith in
+    let out : in_mask mask i ≡ false = rw z at (f 0 (omega arith)) in
+    rw (
+      row_stays clock mask i r (rw (out, blank_never r t.0)),
+      blank_stays clock mask (suc i) rs t.1 (λ k lt. let y : i + suc k ≡ suc i + k = omega arith in rw y at (f (suc k) (omega arith))),
+    )
+
+-- a verdict as the tick gets it: a refusal, or the place of the task that runs
+abbrev pub judged_as : Machine → ℕ → Verdict → Result (Option ℕ) Refusal
+judged_as m mask (refused refusal) = Err refusal
+judged_as m mask accepted = Ok (place (chosen (turned m.clock mask m.rows)))
+
+-- a state that isn't well formed by some place
+pub not_well : (m : Machine) → places_fit m.clock m.count m.rows ≡ false → well_formed m ≡ false
+unfolding well_formed places_fit
+not_well m h =
+    go (leb 1 m.count) (leb m.count 32) (leb m.clock (2 ^ 40))
+    (every (row_fits m.clock) (take m.count m.rows) && (one_begun m.rows && every is_blank (drop m.count m.rows))) h
   where
-    go : (b : Bool) → (in_mask mask i || is_due clock r.e r.stage) ≡ b
-        → cond b (turned_row clock mask i r) r ∷ map_from (turned_row clock mask) (suc i) rs
-        ≡ turned_row clock mask i r ∷ map_from (turned_row clock mask) (suc i) rs
-    go true e = refl
-    go false e = rw (row_stays clock mask i r e)
+    go : (a b t r : Bool) → (b && r) ≡ false → ((a && b) && (t && r)) ≡ false
+    go true true true r e = e
+    go true true false r e = refl
+    go true false t r e = refl
+    go false b t r e = refl
 
-pub taking : (m : Machine) (mask : ℕ) → verdict m mask ≡ accepted → Taking m.clock m.count mask 0 m.rows
-taking m mask ok =
-    let p = passed m mask ok in
-    record { fit = (formed m p.good).each; known = p.known; apart = p.apart; free = p.free }
+-- what the pass answers
+pub passed_err : (b : Bool) (v : Seen) (x : Refusal) → Err x ≡ cond b (Ok v) (Err (Refusal.NotWellFormed 0))
+    → (b ≡ false) × (x ≡ Refusal.NotWellFormed 0)
+passed_err true v x h = cc
+passed_err false v x h = (refl, cc)
 
--- a verdict as the step gets it: a refusal, or the place of the task that runs
-abbrev pub judged_as : Machine → ℕ → Verdict → Judged
-judged_as m mask (refused refusal) = Judged.Refused refusal
-judged_as m mask accepted = Judged.Accepted (place (chosen (turned m.clock mask m.rows)))
+pub passed_ok : (b : Bool) (v w : Seen) → Ok w ≡ cond b (Ok v) (Err (Refusal.NotWellFormed 0)) → (b ≡ true) × (w ≡ v)
+passed_ok true v w h = (refl, cc)
+passed_ok false v w h = cc
 
-module _ (m : Machine) (mask : ℕ) (w : Seen) (next : List Row) (p : Passing m mask 32 w next) where
-  all_rows : take 32 m.rows ≡ m.rows
-  all_rows = take_all 32 m.rows (omega (arith, p.long))
+module _ (m : Machine) (mask : ℕ) (long : length m.rows ≡ 32) (fit : places_fit m.clock m.count m.rows ≡ true) where
+  abbrev pub table : List Row
+  table = take m.count m.rows
 
-  soon_place : w.soon ≡ place (soon_in m mask)
-  soon_place = rw all_rows at p.soon_place
+  abbrev pub rest : List Row
+  rest = drop m.count m.rows
 
-  -- where no task came too soon
-  all_free : soon_in m mask ≡ none → Free m mask 32 w next
-  all_free h = p.free (let z : w.soon ≡ 32 = soon_place ∙ ap place h in omega arith)
+  -- what fits
+  parts : (leb m.count 32 ≡ true) × (every (row_fits m.clock) table ≡ true) × (one_begun m.rows ≡ true) × (every is_blank rest ≡ true)
+  unfolding places_fit
+  parts =
+      let x = both (leb m.count 32) (every (row_fits m.clock) table && (one_begun m.rows && every is_blank rest)) fit in
+      let y = both (every (row_fits m.clock) table) (one_begun m.rows && every is_blank rest) x.1 in
+      let z = both (one_begun m.rows) (every is_blank rest) y.1 in
+      (x.0, y.0, z.0, z.1)
 
-  seen_all : soon_in m mask ≡ none → w ≡ seen_in m.clock m.count mask w.moved m.rows
-  seen_all h = rw all_rows at (all_free h).seen
+  pub few : m.count ≤ 32
+  few = leb-true m.count 32 parts.0
 
-  unfit_test : (a b : Bool) → (not a || not b) ≡ not (a && b)
-  unfit_test true b = refl
-  unfit_test false b = refl
+  table_length : length table ≡ m.count
+  table_length = length-take-le m.count m.rows (omega (arith, long, few))
 
   unfit_law : (ltb m.count 1 || ltb (2 ^ 40) m.clock) ≡ not (well_formed m)
+  unfolding well_formed
   unfit_law =
       rw (
-        well_law m,
-        rw all_rows at p.fit,
-        le-leb (how_many begun_row m.rows) 1 (rw all_rows at p.one),
-        le-leb m.count 32 p.few,
+        parts.0,
+        parts.1,
+        parts.2,
+        parts.3,
         and_true (leb 1 m.count),
         and_true (leb m.clock (2 ^ 40)),
         not_leb 1 m.count,
         not_leb m.clock (2 ^ 40),
-      ) (unfit_test (leb 1 m.count) (leb m.clock (2 ^ 40)))
+      ) (go (leb 1 m.count) (leb m.clock (2 ^ 40)))
+    where
+      go : (a b : Bool) → (not a || not b) ≡ not (a && b)
+      go true b = refl
+      go false b = refl
 
-  hyper_place : soon_in m mask ≡ none → w.hyper ≡ place (hyper_in m mask)
+  -- a search comes to none of the places past the table
+  table_only : (p : ℕ → Row → Bool) → ((i : ℕ) (r : Row) → is_blank r ≡ true → p i r ≡ false) → first p table ≡ first p m.rows
+  table_only p fails = sym (rw take-append-drop at (first_blank p fails table rest parts.3))
+
+  soon_law : (seen_in m.clock mask table).soon ≡ place (soon_in m mask)
   unfolding seen_in
-  hyper_place h = ap (λ v. v.hyper) (seen_all h)
+  soon_law = ap place (table_only (too_soon mask m.clock) (λ i r h. rw (blank_never r h, and_false (in_mask mask i))))
 
-  -- a check that refuses, and one that lets the tick on
-  refuses : (refusal : ℕ → Refusal) (f : Found) (x i : ℕ) (j : Judged) → ((k : ℕ) → f ≡ at k → k < 32) → x ≡ place f → f ≡ at i
-      → or_refused refusal x j ≡ Judged.Refused (refusal (i + 1))
-  refuses refusal f x i j b e q =
-      let z : x ≡ i = e ∙ ap place q in
-      rw (z, lt-ltb i 32 (b i q))
+  hyper_table : first (while_hyper mask) table ≡ hyper_in m mask
+  hyper_table = table_only (while_hyper mask) (λ i r h. rw (blank_never r h, and_false (in_mask mask i)))
 
-  lets : (refusal : ℕ → Refusal) (f : Found) (x : ℕ) (j : Judged) → x ≡ place f → f ≡ none → or_refused refusal x j ≡ j
-  lets refusal f x j e q =
-      let z : x ≡ 32 = e ∙ ap place q in
-      rw z
+  hyper_law : (seen_in m.clock mask table).hyper ≡ place (hyper_in m mask)
+  unfolding seen_in
+  hyper_law = ap place hyper_table
 
-  pub judged_law : judged_by m.clock m.count mask w ≡ judged_as m mask (verdict m mask)
+  pub soon_below : IfSome (seen_in m.clock mask table).soon (λ i. i < 32)
+  unfolding seen_in
+  soon_below = place_below (too_soon mask m.clock) table (omega (arith, table_length, few))
+
+  pub hyper_below : IfSome (seen_in m.clock mask table).hyper (λ i. i < 32)
+  unfolding seen_in
+  hyper_below = place_below (while_hyper mask) table (omega (arith, table_length, few))
+
+  -- the machine after the pass
+  abbrev pub rows_passed : List Row
+  rows_passed = turned m.clock mask table ++ rest
+
+  abbrev pub passed_over : Machine
+  passed_over = record { rows = rows_passed; count = m.count; clock = m.clock }
+
+  passed_length : length rows_passed ≡ length m.rows
+  passed_length =
+      let a = turned_length m.clock mask table in
+      let b = length-append table rest in
+      length-append (turned m.clock mask table) rest ∙ rw (a, ← b) (ap length (take-append-drop m.count m.rows))
+
+  past_law : first (past_last mask m.count) rows_passed ≡ past_in m mask
+  past_law = past_same mask m.count 0 rows_passed m.rows passed_length
+
+  -- in a tick that is taken no task in the mask is past the table
+  turned_all : verdict m mask ≡ accepted → turned m.clock mask (table ++ rest) ≡ rows_passed
+  turned_all ok =
+      let f : ℕ → Row → Row = turned_row m.clock mask in
+      let z : 0 + length table ≡ m.count = omega (arith, table_length) in
+      rw (turned_law m.clock mask table, turned_law m.clock mask (table ++ rest), map_append f 0 table rest, z)
+      (ap (λ l. map_from f 0 table ++ l) (blank_stays m.clock mask m.count rest parts.3 out))
+    where
+      out : (k : ℕ) → k < length rest → in_mask mask (m.count + k) ≡ false
+      out k lt =
+          let n = none_at (past_last mask m.count) m.rows 0 (m.count + k) (passed m mask ok).known (omega (arith, length-drop m.count m.rows)) in
+          let z : 0 + (m.count + k) ≡ m.count + k = omega arith in
+          first_fails (in_mask mask (m.count + k)) (leb m.count (m.count + k)) (le-leb m.count (m.count + k) (omega arith)) (rw z at n)
+
+  pub turned_rows : verdict m mask ≡ accepted → rows_passed ≡ turned m.clock mask m.rows
+  turned_rows ok = sym (turned_all ok) ∙ ap (turned m.clock mask) (take-append-drop m.count m.rows)
+
+  chosen_table : chosen (turned m.clock mask table) ≡ chosen rows_passed
+  unfolding chosen
+  chosen_table =
+      let t : List Row = turned m.clock mask table in
+      let b = first_blank begun (λ i r h. rw (blank_never r h)) t rest parts.3 in
+      let w = first_blank waiting (λ i r h. rw (blank_never r h)) t rest parts.3 in
+      let r = first_blank ready (λ i r h. rw (blank_never r h)) t rest parts.3 in
+      rw (b, w, r)
+
+  pub runs : verdict m mask ≡ accepted → chosen_by (seen_in m.clock mask table) ≡ place (chosen (turned m.clock mask m.rows))
+  runs ok =
+      chosen_law m.clock mask table (hyper_table ∙ (passed m mask ok).free) ∙ ap place (chosen_table ∙ ap chosen (turned_rows ok))
+
+  pub judged_law : judged_by passed_over mask (seen_in m.clock mask table) ≡ judged_as m mask (verdict m mask)
   unfolding judged_by verdict
-  judged_law = go (well_formed m) refl (eqb m.clock (2 ^ 40)) refl
+  judged_law = rw (past_law, soon_law, hyper_law) (go (well_formed m) refl (eqb m.clock (2 ^ 40)) refl (past_in m mask) refl (soon_in m mask) refl (hyper_in m mask) refl)
     where
-      runs : verdict m mask ≡ accepted → chosen_by w ≡ place (chosen (turned m.clock mask m.rows))
-      runs ok = ap chosen_by (seen_all (passed m mask ok).apart) ∙ chosen_law m.clock m.count mask w.moved m.rows p.long (taking m mask ok)
+      Judged : Type 0
+      Judged = cond (ltb m.count 1 || ltb (2 ^ 40) m.clock) (Err (Refusal.NotWellFormed 0))
+          (cond (eqb m.clock (2 ^ 40)) (Err (Refusal.ClockAtEnd 0))
+          (or_refused Refusal.NoSuchTask (place (past_in m mask))
+          (or_refused Refusal.ArrivalTooSoon (place (soon_in m mask))
+          (or_refused Refusal.ArrivalWhileHyper (place (hyper_in m mask)) (Ok (chosen_by (seen_in m.clock mask table)))))))
+          ≡ judged_as m mask (verdict m mask)
 
-      yes : Judged
-      yes = Judged.Accepted (chosen_by w)
+      go : (x : Bool) → well_formed m ≡ x → (y : Bool) → eqb m.clock (2 ^ 40) ≡ y → (p : Found) → past_in m mask ≡ p
+          → (s : Found) → soon_in m mask ≡ s → (h : Found) → hyper_in m mask ≡ h → Judged
+      go false e y f p q s r h t = rw (unfit_law, e)
+      go true e true f p q s r h t = rw (unfit_law, e, f)
+      go true e false f (at i) q s r h t = rw (unfit_law, e, f, q)
+      go true e false f none q (at i) r h t = rw (unfit_law, e, f, q, r)
+      go true e false f none q none r (at i) t = rw (unfit_law, e, f, q, r, t)
+      go true e false f none q none r none t =
+          let ok : verdict m mask ≡ accepted = rw (e, f, q, r, t) in
+          rw (unfit_law, e, f, q, r, t) (ap Ok (runs ok))
 
-      at_hyper : Judged
-      at_hyper = or_refused Refusal.ArrivalWhileHyper w.hyper yes
-
-      at_soon : Judged
-      at_soon = or_refused Refusal.ArrivalTooSoon w.soon at_hyper
-
-      past : ℕ
-      past = past_from mask m.count (32 - m.count)
-
-      past_place : well_formed m ≡ true → past ≡ place (past_in m mask)
-      past_place e = sym (past_law mask m.count m.rows p.long (formed m e).most)
-
-      on : well_formed m ≡ true → eqb m.clock (2 ^ 40) ≡ false → (f : Found) → past_in m mask ≡ f → (g : Found) → soon_in m mask ≡ g
-          → (h : Found) → hyper_in m mask ≡ h → judged_by m.clock m.count mask w ≡ judged_as m mask (verdict m mask)
-      on e t (at i) q g r h s =
-          rw (unfit_law, e, t, q)
-          (refuses Refusal.NoSuchTask (past_in m mask) past i at_soon (below (past_last mask m.count) m.rows p.long) (past_place e) q)
-      on e t none q (at i) r h s =
-          rw (unfit_law, e, t, q, r)
-          (lets Refusal.NoSuchTask (past_in m mask) past at_soon (past_place e) q
-          ∙ refuses Refusal.ArrivalTooSoon (soon_in m mask) w.soon i at_hyper (below (too_soon mask m.clock) m.rows p.long) soon_place r)
-      on e t none q none r (at i) s =
-          rw (unfit_law, e, t, q, r, s)
-          (lets Refusal.NoSuchTask (past_in m mask) past at_soon (past_place e) q
-          ∙ lets Refusal.ArrivalTooSoon (soon_in m mask) w.soon at_hyper soon_place r
-          ∙ refuses Refusal.ArrivalWhileHyper (hyper_in m mask) w.hyper i yes (below (while_hyper mask) m.rows p.long) (hyper_place r) s)
-      on e t none q none r none s =
-          let ok : verdict m mask ≡ accepted = rw (e, t, q, r, s) in
-          rw (unfit_law, e, t, q, r, s)
-          (lets Refusal.NoSuchTask (past_in m mask) past at_soon (past_place e) q
-          ∙ lets Refusal.ArrivalTooSoon (soon_in m mask) w.soon at_hyper soon_place r
-          ∙ lets Refusal.ArrivalWhileHyper (hyper_in m mask) w.hyper yes (hyper_place r) s
-          ∙ ap Judged.Accepted (runs ok))
-
-      go : (x : Bool) → well_formed m ≡ x → (y : Bool) → eqb m.clock (2 ^ 40) ≡ y
-          → judged_by m.clock m.count mask w ≡ judged_as m mask (verdict m mask)
-      go false e y f = rw (unfit_law, e)
-      go true e true f = rw (unfit_law, e, f)
-      go true e false f = on e f (past_in m mask) refl (soon_in m mask) refl (hyper_in m mask) refl
-
-  -- what the step learns of the judgement
-  pub judged_refused : (x : Refusal) → judged_by m.clock m.count mask w ≡ Judged.Refused x → verdict m mask ≡ refused x
-  judged_refused x h = go (verdict m mask) refl (sym judged_law ∙ h)
+  -- what the tick learns of it
+  pub judged_refused : (x : Refusal) → Err x ≡ judged_by passed_over mask (seen_in m.clock mask table) → verdict m mask ≡ refused x
+  judged_refused x h = go (verdict m mask) (h ∙ judged_law)
     where
-      go : (v : Verdict) → verdict m mask ≡ v → judged_as m mask (verdict m mask) ≡ Judged.Refused x → verdict m mask ≡ refused x
-      go (refused y) e q =
-          let a : Judged.Refused y ≡ Judged.Refused x = rw e at q in
-          let z : y ≡ x = cc in
-          rw (e, z)
-      go accepted e q =
-          let a : judged_as m mask accepted ≡ Judged.Refused x = rw e at q in
-          let z : ◌≡◌ {A = ℕ} 0 1 = cc in
-          absurd (omega arith)
+      go : (v : Verdict) → Err x ≡ judged_as m mask v → v ≡ refused x
+      go (refused y) e = let z : x ≡ y = cc in rw z
+      go accepted e = cc
 
-  pub judged_taken : (runs : ℕ) → judged_by m.clock m.count mask w ≡ Judged.Accepted runs
-      → (verdict m mask ≡ accepted) × (runs ≡ place (chosen (turned m.clock mask m.rows)))
-  judged_taken runs h = go (verdict m mask) refl (sym judged_law ∙ h)
+  pub judged_taken : (x : Option ℕ) → Ok x ≡ judged_by passed_over mask (seen_in m.clock mask table)
+      → (verdict m mask ≡ accepted) × (x ≡ place (chosen (turned m.clock mask m.rows)))
+  judged_taken x h = go (verdict m mask) refl (h ∙ judged_law)
     where
-      go : (v : Verdict) → verdict m mask ≡ v → judged_as m mask (verdict m mask) ≡ Judged.Accepted runs
-          → (verdict m mask ≡ accepted) × (runs ≡ place (chosen (turned m.clock mask m.rows)))
-      go (refused y) e q =
-          let a : Judged.Refused y ≡ Judged.Accepted runs = rw e at q in
-          let z : ◌≡◌ {A = ℕ} 0 1 = cc in
-          absurd (omega arith)
-      go accepted e q =
-          let a : judged_as m mask accepted ≡ Judged.Accepted runs = rw e at q in
-          let z : place (chosen (turned m.clock mask m.rows)) ≡ runs = cc in
-          (e, sym z)
+      go : (v : Verdict) → verdict m mask ≡ v → Ok x ≡ judged_as m mask v → (v ≡ accepted) × (x ≡ place (chosen (turned m.clock mask m.rows)))
+      go (refused y) e q = cc
+      go accepted e q = (refl, cc)
 
-  -- the tick is taken: the rows after steps 1 and 2, and who runs
-  module _ (runs : ℕ) (judged : judged_by m.clock m.count mask w ≡ Judged.Accepted runs) where
-    pub ok : verdict m mask ≡ accepted
-    ok = (judged_taken runs judged).0
-
+  -- the tick is taken, and x is the place that was chosen
+  module _ (x : Option ℕ) (h : Ok x ≡ judged_by passed_over mask (seen_in m.clock mask table)) where
     pub room : m.clock < 2 ^ 40
-    room = (passed m mask ok).room
+    room = (passed m mask (judged_taken x h).0).room
 
-    pub turned_rows : next ≡ turned m.clock mask m.rows
-    turned_rows =
-        let end = drop_of_length-le m.rows {i = 32} (omega (arith, p.long)) in
-        (all_free (passed m mask ok).apart).so_far ∙ rw (all_rows, end) (append-nil (map_from (passed_row m.clock m.count mask) 0 m.rows))
-        ∙ passed_rows m.clock m.count mask 0 m.rows (taking m mask ok) ∙ sym (turned_law m.clock mask m.rows)
+    pub may_run : IfSome x (λ i. (i < 32) × MayRun (get_or rows_passed i no_row))
+    may_run = go x (judged_taken x h).1
+      where
+        ok : verdict m mask ≡ accepted
+        ok = (judged_taken x h).0
 
-    found_below : (j : ℕ) → chosen (turned m.clock mask m.rows) ≡ at j → j < 32
-    found_below j e =
-        let q = chosen_runs (turned m.clock mask m.rows) j e in
-        omega (arith, turned_length m.clock mask m.rows, p.long)
+        all : List Row
+        all = turned m.clock mask m.rows
 
-    pub runs_at : runs < 32 → chosen (turned m.clock mask m.rows) ≡ at runs
-    runs_at h = place_found (chosen (turned m.clock mask m.rows)) runs found_below (judged_taken runs judged).1 h
+        go : (y : Option ℕ) → y ≡ place (chosen all) → IfSome y (λ i. (i < 32) × MayRun (get_or rows_passed i no_row))
+        go None e = tt
+        go (Some i) e =
+            let q = chosen_runs all i (place_at (chosen all) i e) in
+            let lt : i < 32 = omega (arith, q.0, turned_length m.clock mask m.rows, long) in
+            (lt, rw (turned_rows ok) q.1)
 
-    pub runs_none : 32 ≤ runs → chosen (turned m.clock mask m.rows) ≡ none
-    runs_none h = place_none (chosen (turned m.clock mask m.rows)) runs found_below (judged_taken runs judged).1 h
+    pub taken_law : (signal : ℕ) (early : Bool) → ran_on m.count m.clock rows_passed signal early (found x) ≡ step_of m mask signal early
+    unfolding step_of taken
+    taken_law signal early =
+        let t = judged_taken x h in
+        rw (t.0, t.1, found_place (chosen (turned m.clock mask m.rows)), turned_rows t.0)
 
-    pub may_run : runs < 32 → (is_hyper (get_or next runs no_row).stage || has_budget (get_or next runs no_row).c (get_or next runs no_row).stage) ≡ true
-    may_run h = rw turned_rows (chosen_runs (turned m.clock mask m.rows) runs (runs_at h)).1
+pub refused_law : (m : Machine) (mask signal : ℕ) (early : Bool) (x : Refusal) → verdict m mask ≡ refused x
+    → step_of m mask signal early ≡ record { machine = m; answer = Err x }
+unfolding step_of
+refused_law m mask signal early x h = rw h

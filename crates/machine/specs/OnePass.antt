@@ -1,23 +1,27 @@
 -- What the private functions of src/ find on their way over the rows, said by the searches of the tick rule. It is no second
 -- rule: the proofs tie it to TickRule and WellFormed, and no public function cites it. Assumes nothing.
-use Rattle.std.specs.Prelude.{ℕ, zero, suc, ◌+◌, ◌-◌, ◌^◌, Bool, true, false, not, cond, ◌&&◌, ◌||◌, List, ltb, eqb, Ok, Err}
+use Rattle.std.specs.Prelude.{◌≡◌, ℕ, ◌+◌, ◌^◌, Bool, true, false, not, cond, ◌&&◌, ◌||◌, List, take, drop, leb, ltb, eqb}
+use Rattle.std.specs.Prelude.{Option, Some, None, is_some, Result, Ok, Err}
+use Rattle.std.specs.Option.{option_or}
 use Rattle.refusals.specs.declared.Refusal.{Refusal}
 use Rattle.machine.specs.declared.Stage.{Stage}
 use Rattle.machine.specs.declared.Row.{Row}
 use Rattle.machine.specs.declared.Machine.{Machine}
-use Rattle.machine.specs.Answers.{Answer}
 use Rattle.machine.specs.declared.Taken.{Taken}
 use Rattle.machine.specs.declared.Stepped.{Stepped}
 use Rattle.machine.specs.declared.Seen.{Seen}
-use Rattle.machine.specs.declared.Judged.{Judged}
-use Rattle.machine.specs.Rows.{in_mask, age, Found, at, none, first, is_hyper, has_begun, has_budget, with_stage}
-use Rattle.machine.specs.WellFormed.{row_fits, fields_fit, stage_fits, is_blank}
-use Rattle.machine.specs.TickRule.{younger_than, too_soon, while_hyper, enforced, begun, next_clock}
+use Rattle.machine.specs.Rows.{in_mask, age, Found, at, none, first, every, is_hyper, has_begun, has_budget, with_stage}
+use Rattle.machine.specs.WellFormed.{row_fits, is_blank, one_begun}
+use Rattle.machine.specs.TickRule.{younger_than, past_last, too_soon, while_hyper, enforced, begun, waiting, ready, turned}
 
--- what was found as a number: the place, or 32
-abbrev pub place : Found → ℕ
-place (at i) = i
-place none = 32
+-- what was found, as src/ has it
+abbrev pub place : Found → Option ℕ
+place (at i) = Some i
+place none = None
+
+abbrev pub found : Option ℕ → Found
+found (Some i) = at i
+found None = none
 
 abbrev pub is_none : Found → Bool
 is_none (at i) = false
@@ -27,7 +31,19 @@ is_none none = true
 abbrev pub misplaced : ℕ → ℕ → ℕ → Row → Bool
 misplaced clock count i r = not (cond (ltb i count) (row_fits clock r) (is_blank r))
 
--- one row after steps 1 and 2
+-- every place is well formed by itself, and one hypertask at most has begun
+unfoldable pub places_fit : ℕ → ℕ → List Row → Bool
+places_fit clock count rows =
+    leb count 32 && (every (row_fits clock) (take count rows) && (one_begun rows && every is_blank (drop count rows)))
+
+-- 8, unless all is well
+abbrev pub answer_if : Bool → Result (Unit {0}) Refusal
+answer_if fits = cond fits (Ok tt) (Err (Refusal.NotWellFormed 0))
+
+-- one row after steps 1 and 2, by whether its task is in the mask
+abbrev pub turned_by : ℕ → Bool → Row → Row
+turned_by clock arrives r = with_stage r (cond arrives (Stage.Guest clock 0) (enforced clock r.k r.e r.stage))
+
 unfoldable pub turned_row : ℕ → ℕ → ℕ → Row → Row
 turned_row clock mask i r = with_stage r (cond (in_mask mask i) (Stage.Guest clock 0) (enforced clock r.k r.e r.stage))
 
@@ -38,142 +54,83 @@ is_due clock e (Stage.Guest arrival used) = eqb (age clock arrival) e
 is_due clock e (Stage.Hyper arrival left) = false
 is_due clock e (Stage.Closed arrival) = false
 
--- 11 or 12 refuses the task's arrival
-abbrev pub may_not_arrive : ℕ → ℕ → Stage → Bool
-may_not_arrive clock t s = younger_than clock t s || is_hyper s
+-- The pass over the rows of the table, from the first to the last
 
--- a task of the table that is in the mask and may arrive
-abbrev pub arrives : ℕ → ℕ → ℕ → ℕ → Row → Bool
-arrives clock count mask i r = ltb i count && (in_mask mask i && not (may_not_arrive clock r.t r.stage))
+-- what was found first stays; is: whether place i is one
+abbrev pub first_kept : Option ℕ → Bool → ℕ → Option ℕ
+first_kept x is i = cond is (option_or x (Some i)) x
 
--- the row as the pass leaves it: steps 1 and 2 where its task arrives or is due
-abbrev pub moves : ℕ → ℕ → ℕ → ℕ → Row → Bool
-moves clock count mask i r = arrives clock count mask i r || is_due clock r.e r.stage
-
-unfoldable pub passed_row : ℕ → ℕ → ℕ → ℕ → Row → Row
-passed_row clock count mask i r = cond (moves clock count mask i r) (turned_row clock mask i r) r
-
--- a row that is Hyper, or has budget, after steps 1 and 2
-abbrev pub will_wait : ℕ → ℕ → Row → Bool
-will_wait clock i r = is_hyper (enforced clock r.k r.e r.stage)
-
-abbrev pub will_be_ready : ℕ → ℕ → ℕ → ℕ → Row → Bool
-will_be_ready clock count mask i r = arrives clock count mask i r || has_budget r.c (enforced clock r.k r.e r.stage)
-
--- The pass over the rows, from the first to the last
-
--- what was found first stays
-abbrev pub first_kept : ℕ → ℕ → ℕ
-first_kept x i = cond (ltb x 32) x i
-
--- before it, or where it found a place that isn't well formed
-abbrev pub nothing_seen : Bool → Seen
-nothing_seen unfit = record { unfit = unfit; moved = false; begun = 32; waiting = 32; ready = 32; soon = 32; hyper = 32 }
-
--- what the rows l show
-unfoldable pub seen_in : ℕ → ℕ → ℕ → Bool → List Row → Seen
-seen_in clock count mask moved l =
+-- of a task in the mask, as it was handed in
+abbrev pub arrival_seen : ℕ → ℕ → Row → Seen → Seen
+arrival_seen clock i r w =
     record {
-      unfit = false;
-      moved = moved;
-      begun = place (first begun l);
-      waiting = place (first (will_wait clock) l);
-      ready = place (first (will_be_ready clock count mask) l);
-      soon = place (first (too_soon mask clock) l);
-      hyper = place (first (while_hyper mask) l);
-    }
-
--- one row more, at place i, by its stage s
-unfoldable pub stage_seen : ℕ → ℕ → Row → Stage → Seen → Seen
-stage_seen clock i r s w =
-    record {
-      unfit = w.unfit;
-      moved = cond (is_due clock r.e s) true w.moved;
-      begun = cond (has_begun r.k s) i w.begun;
-      waiting = cond (is_hyper (enforced clock r.k r.e s)) (first_kept w.waiting i) w.waiting;
-      ready = cond (has_budget r.c (enforced clock r.k r.e s)) (first_kept w.ready i) w.ready;
-      soon = w.soon;
-      hyper = w.hyper;
-    }
-
--- of a task in the mask: it comes too soon, or while it is Hyper, or it arrives
-abbrev pub soon_seen : ℕ → Seen → Seen
-soon_seen i w =
-    record { unfit = w.unfit; moved = w.moved; begun = w.begun; waiting = w.waiting; ready = w.ready; soon = i; hyper = w.hyper }
-
-abbrev pub hyper_seen : ℕ → Seen → Seen
-hyper_seen i w =
-    record {
-      unfit = w.unfit;
-      moved = w.moved;
+      soon = first_kept w.soon (younger_than clock r.t r.stage) i;
+      hyper = first_kept w.hyper (is_hyper r.stage) i;
       begun = w.begun;
       waiting = w.waiting;
       ready = w.ready;
-      soon = w.soon;
-      hyper = first_kept w.hyper i;
     }
 
-abbrev pub ready_seen : ℕ → Seen → Seen
-ready_seen i w =
+-- of a row after steps 1 and 2
+abbrev pub turned_seen : ℕ → Row → Seen → Seen
+turned_seen i r w =
     record {
-      unfit = w.unfit;
-      moved = true;
-      begun = w.begun;
-      waiting = w.waiting;
-      ready = first_kept w.ready i;
       soon = w.soon;
       hyper = w.hyper;
+      begun = w.begun;
+      waiting = first_kept w.waiting (is_hyper r.stage) i;
+      ready = first_kept w.ready (has_budget r.c r.stage) i;
     }
 
 -- a second hypertask that has begun
-abbrev pub second_begun : ℕ → Stage → Seen → Bool
-second_begun k s w = has_begun k s && ltb w.begun 32
+abbrev pub second_begun : Row → Seen → Bool
+second_begun r w = has_begun r.k r.stage && is_some w.begun
 
-abbrev pub stage_or_unfit : ℕ → ℕ → Row → Stage → Seen → Seen
-stage_or_unfit clock i r s w =
-    cond (stage_fits clock r.c r.k r.e s && not (second_begun r.k s w)) (stage_seen clock i r s w) (nothing_seen true)
+-- one row more, at place i
+unfoldable pub row_seen : ℕ → Bool → ℕ → Row → Seen → Seen
+row_seen clock arrives i r w =
+    record {
+      soon = first_kept w.soon (arrives && younger_than clock r.t r.stage) i;
+      hyper = first_kept w.hyper (arrives && is_hyper r.stage) i;
+      begun = first_kept w.begun (has_begun r.k r.stage) i;
+      waiting = first_kept w.waiting (is_hyper (turned_by clock arrives r).stage) i;
+      ready = first_kept w.ready (has_budget r.c (turned_by clock arrives r).stage) i;
+    }
 
--- its task is in the mask, and none came too soon before it
-unfoldable pub arrival_seen : ℕ → ℕ → ℕ → Stage → Seen → Seen
-arrival_seen clock i t s w = cond (ltb w.soon 32) w (cond (younger_than clock t s) (soon_seen i w) (cond (is_hyper s) (hyper_seen i w) (ready_seen i w)))
-
-abbrev pub arrival_on : ℕ → ℕ → ℕ → Row → Seen → Seen
-arrival_on clock mask i r w = cond (in_mask mask i) (arrival_seen clock i r.t r.stage w) w
-
-abbrev pub unmoved : Seen → Seen
-unmoved w = record { unfit = w.unfit; moved = false; begun = w.begun; waiting = w.waiting; ready = w.ready; soon = w.soon; hyper = w.hyper }
-
-unfoldable pub row_seen : ℕ → ℕ → ℕ → Row → Seen → Seen
-row_seen clock mask i r w =
-    cond (fields_fit r) (arrival_on clock mask i r (stage_or_unfit clock i r r.stage (unmoved w))) (nothing_seen true)
-
--- the lowest task in the mask of the k places from i on
-unfoldable pub past_from : ℕ → ℕ → ℕ → ℕ
-past_from mask i zero = 32
-past_from mask i (suc k) = cond (in_mask mask i) i (past_from mask (suc i) k)
+-- what the rows l show
+unfoldable pub seen_in : ℕ → ℕ → List Row → Seen
+seen_in clock mask l =
+    record {
+      soon = place (first (too_soon mask clock) l);
+      hyper = place (first (while_hyper mask) l);
+      begun = place (first begun l);
+      waiting = place (first waiting (turned clock mask l));
+      ready = place (first ready (turned clock mask l));
+    }
 
 -- The verdict on what the pass found; where the tick is taken, the place that step 3 chooses
 
 -- a begun hypertask, a waiting one, or the first ready guest
-abbrev pub chosen_by : Seen → ℕ
-chosen_by w = cond (ltb w.begun 32) w.begun (cond (ltb w.waiting 32) w.waiting w.ready)
+abbrev pub chosen_by : Seen → Option ℕ
+chosen_by w = option_or (option_or w.begun w.waiting) w.ready
 
-abbrev pub or_refused : (ℕ → Refusal) → ℕ → Judged → Judged
-or_refused refusal x j = cond (ltb x 32) (Judged.Refused (refusal (x + 1))) j
+abbrev pub or_refused : (ℕ → Refusal) → Option ℕ → Result (Option ℕ) Refusal → Result (Option ℕ) Refusal
+or_refused refusal (Some i) j = Err (refusal (i + 1))
+or_refused refusal None j = j
 
-unfoldable pub judged_by : ℕ → ℕ → ℕ → Seen → Judged
-judged_by clock count mask w =
-    cond (ltb count 1 || ltb (2 ^ 40) clock) (Judged.Refused (Refusal.NotWellFormed 0))
-    (cond (eqb clock (2 ^ 40)) (Judged.Refused (Refusal.ClockAtEnd 0))
-    (or_refused Refusal.NoSuchTask (past_from mask count (32 - count))
+unfoldable pub judged_by : Machine → ℕ → Seen → Result (Option ℕ) Refusal
+judged_by m mask w =
+    cond (ltb m.count 1 || ltb (2 ^ 40) m.clock) (Err (Refusal.NotWellFormed 0))
+    (cond (eqb m.clock (2 ^ 40)) (Err (Refusal.ClockAtEnd 0))
+    (or_refused Refusal.NoSuchTask (place (first (past_last mask m.count) m.rows))
     (or_refused Refusal.ArrivalTooSoon w.soon
-    (or_refused Refusal.ArrivalWhileHyper w.hyper (Judged.Accepted (chosen_by w))))))
+    (or_refused Refusal.ArrivalWhileHyper w.hyper (Ok (chosen_by w))))))
 
--- the machine as it was given, and why
-abbrev pub refused_as : Machine → Refusal → Stepped
-refused_as m refusal = record { machine = m; answer = Err refusal }
+-- what step 3 chooses: Hyper, or a Guest with budget
+abbrev pub MayRun : Row → Type 0
+MayRun r = (is_hyper r.stage || has_budget r.c r.stage) ≡ true
 
--- the rows after steps 1 to 4, with the clock one further and what the tick says
-abbrev pub taken_with : List Row → ℕ → ℕ → Taken → Stepped
-taken_with rows count clock says =
-    record { machine = record { rows = rows; count = count; clock = next_clock clock }; answer = Ok says }
+-- a tick of m that ends with the machine `next`; a refused one leaves m as it was
+abbrev pub stepped_to : Machine → Machine → Result Taken Refusal → Stepped
+stepped_to m next (Ok says) = record { machine = next; answer = Ok says }
+stepped_to m next (Err why) = record { machine = m; answer = Err why }

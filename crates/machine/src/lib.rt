@@ -1,17 +1,22 @@
 // The machine that runs an accepted table tick by tick: document 01, "The tick rule". Its rule is specs/TickRule.antt.
 #![tactic(auto)]
 
-ghost use Rattle.std.specs.Prelude.{◌≡◌, true, cond, ◌||◌, ◌+◌, ◌-◌, ◌<◌, ◌≤◌};
-ghost use Rattle.machine.specs.Rows.{age, in_mask, with_stage, is_never, is_hyper, has_budget};
-ghost use Rattle.machine.specs.WellFormed.{in_limits, fields_fit, is_blank};
-ghost use Rattle.machine.specs.TickRule.{younger_than, hypertask_ran, guest_ran, nobody_ran, ran_from, enforced, step_of};
-ghost use Rattle.machine.specs.OnePass.{first_kept, nothing_seen, stage_or_unfit, arrival_seen, row_seen, past_from, chosen_by, judged_by, turned_row};
-ghost use Rattle.machine.specs.OnePass.{refused_as, taken_with};
+ghost use Rattle.std.specs.Prelude.{◌≡◌, Ok, Err, Bool, true, not, cond, ◌&&◌, ◌||◌, ◌+◌, ◌^◌, ◌<◌, ◌≤◌, ◌++◌, get_or, take, drop, OnOk, OnSome, IfSome};
+ghost use Rattle.machine.specs.Rows.{no_row, age, in_mask, first, with_stage, is_hyper, has_begun, has_budget};
+ghost use Rattle.machine.specs.WellFormed.{in_limits, fields_fit, stage_fits, row_fits, is_blank};
+ghost use Rattle.machine.specs.TickRule.{younger_than, past_last, hypertask_ran, guest_ran, nobody_ran, ran_from, ran_on, turned, step_of};
+ghost use Rattle.machine.specs.OnePass.{turned_by, arrival_seen, turned_seen, second_begun, row_seen, chosen_by, seen_in, judged_by};
+ghost use Rattle.machine.specs.OnePass.{place, found, MayRun, answer_if, places_fit, stepped_to};
 
 use refusals::Refusal;
 
+// The places for rows, the largest T, D, C and K, and the clock's end, 2^40.
+const PLACES: usize = 32;
+const LARGEST_FIELD: u32 = 1_000_000;
+const LAST_CLOCK: u64 = 1 << 40;
+
 // A task's stage, with its own data.
-#[derive(Clone, Copy)]
+#[derive(Clone, Copy, Debug, PartialEq, Eq)]
 pub enum Stage {
     Never,
     // arrival, used
@@ -23,7 +28,7 @@ pub enum Stage {
 }
 
 // A row: T, D, C, K, the enforcement offset E, and the task's stage.
-#[derive(Clone, Copy)]
+#[derive(Clone, Copy, Debug, PartialEq, Eq)]
 pub struct Row {
     pub t: u32,
     pub d: u32,
@@ -34,15 +39,15 @@ pub struct Row {
 }
 
 // The rows, how many there are, and the clock; places past the last row are zero and Never.
-#[derive(Clone, Copy)]
+#[derive(Clone, Copy, Debug, PartialEq, Eq)]
 pub struct Machine {
-    pub rows: [Row; 32],
+    pub rows: [Row; PLACES],
     pub count: usize,
     pub clock: u64,
 }
 
 // Who ran in a tick: a task, from 1.
-#[derive(Clone, Copy)]
+#[derive(Clone, Copy, Debug, PartialEq, Eq)]
 pub enum Ran {
     Nobody,
     Guest(usize),
@@ -50,7 +55,7 @@ pub enum Ran {
 }
 
 // What the tick gave: an output, or the last tick of a guest's budget without one.
-#[derive(Clone, Copy)]
+#[derive(Clone, Copy, Debug, PartialEq, Eq)]
 pub enum Mark {
     Nothing,
     Output,
@@ -58,7 +63,7 @@ pub enum Mark {
 }
 
 // What a tick that was taken says; ignored: a signal was.
-#[derive(Clone, Copy)]
+#[derive(Clone, Copy, Debug, PartialEq, Eq)]
 pub struct Taken {
     pub ran: Ran,
     pub mark: Mark,
@@ -66,7 +71,7 @@ pub struct Taken {
 }
 
 // The next machine, and what is said of the tick.
-#[derive(Clone, Copy)]
+#[derive(Clone, Copy, Debug, PartialEq, Eq)]
 pub struct Stepped {
     pub machine: Machine,
     pub answer: Result<Taken, Refusal>,
@@ -79,31 +84,22 @@ struct Outcome {
     taken: Taken,
 }
 
-// What the pass over the rows finds: whether a place isn't well formed, whether steps 1 and 2 change the row that was seen
-// last, and of each search the first place, 32 where there is none. The last two are about the tasks in the mask: one that
-// comes too soon, one that is Hyper.
-#[derive(Clone, Copy)]
+// The first place that each search comes to: of the tasks in the mask, one that comes too soon and one that is Hyper; a
+// hypertask that has begun; and after steps 1 and 2, one that waits and a guest that is ready.
+#[derive(Clone, Copy, Default)]
 struct Seen {
-    unfit: bool,
-    moved: bool,
-    begun: usize,
-    waiting: usize,
-    ready: usize,
-    soon: usize,
-    hyper: usize,
+    soon: Option<usize>,
+    hyper: Option<usize>,
+    begun: Option<usize>,
+    waiting: Option<usize>,
+    ready: Option<usize>,
 }
 
-// A tick is refused, or taken: the place of the task that runs, 32 for nobody.
-#[derive(Clone, Copy)]
-enum Judged {
-    Refused(Refusal),
-    Accepted(usize),
-}
-
+#[tactic(auto, unfolding(crate::specs::Rows::age))]
 fn age_of(clock: u64, arrival: u64) -> u64
     ensures { result ≡ age clock arrival }
 {
-    if arrival <= clock { clock - arrival } else { 0 }
+    clock.saturating_sub(arrival)
 }
 
 fn named(mask: u32, i: usize) -> bool
@@ -116,286 +112,106 @@ fn named(mask: u32, i: usize) -> bool
 fn within(x: u32) -> bool
     ensures { result ≡ in_limits x }
 {
-    (1 <= x) & (x <= 1_000_000)
+    1 <= x && x <= LARGEST_FIELD
 }
 
-// D at most T and E below D settle the other bounds of T and D.
-fn fields_fit(r: Row) -> bool
-    ensures { result ≡ fields_fit r }
-{
-    if 1_000_000 < r.t {
-        return false;
+impl Stage {
+    fn is_hyper(self) -> bool
+        ensures { result ≡ is_hyper self }
+    {
+        matches!(self, Stage::Hyper(_, _))
     }
-    if r.t < r.d {
-        return false;
-    }
-    if r.d <= r.e {
-        return false;
-    }
-    (1 <= r.e) & (within(r.c) & within(r.k))
-}
 
-fn is_never(s: Stage) -> bool
-    ensures { result ≡ is_never s }
-{
-    match s {
-        Stage::Never => true,
-        Stage::Guest(_, _) => false,
-        Stage::Hyper(_, _) => false,
-        Stage::Closed(_) => false,
-    }
-}
-
-fn is_blank(r: Row) -> bool
-    ensures { result ≡ is_blank r }
-{
-    let s = r.stage;
-    (r.t == 0) & ((r.d == 0) & ((r.c == 0) & ((r.k == 0) & ((r.e == 0) & is_never(s)))))
-}
-
-fn nothing(unfit: bool) -> Seen
-    ensures { result ≡ nothing_seen unfit }
-{
-    Seen {
-        unfit: unfit,
-        moved: false,
-        begun: 32,
-        waiting: 32,
-        ready: 32,
-        soon: 32,
-        hyper: 32,
-    }
-}
-
-// What was found first stays.
-fn kept(x: usize, i: usize) -> usize
-    ensures { result ≡ first_kept x i }
-{
-    if x < 32 { x } else { i }
-}
-
-// A Guest at place i: its clauses of "well formed", then what step 1 makes of it.
-fn see_guest(mut w: Seen, clock: u64, i: usize, r: Row, a: u64, u: u64) -> Seen
-    ensures { result ≡ stage_or_unfit clock i r (Stage.Guest a u) w }
-{
-    if clock < a {
-        return nothing(true);
-    }
-    let old = age_of(clock, a);
-    let c = r.c;
-    let e = r.e;
-    if (c as u64) < u {
-        return nothing(true);
-    }
-    if (e as u64) < old {
-        return nothing(true);
-    }
-    if old == e as u64 {
-        w.moved = true;
-        w.waiting = kept(w.waiting, i);
-        return w;
-    }
-    if u < c as u64 {
-        w.ready = kept(w.ready, i);
-    }
-    w
-}
-
-// A Hyper at place i; no other may have begun beside one that has.
-fn see_hyper(mut w: Seen, clock: u64, i: usize, r: Row, a: u64, l: u64) -> Seen
-    ensures { result ≡ stage_or_unfit clock i r (Stage.Hyper a l) w }
-{
-    if clock < a {
-        return nothing(true);
-    }
-    let k = r.k;
-    let e = r.e;
-    if l < 1 {
-        return nothing(true);
-    }
-    if (k as u64) < l {
-        return nothing(true);
-    }
-    if age_of(clock, a) <= e as u64 {
-        return nothing(true);
-    }
-    w.waiting = kept(w.waiting, i);
-    if l < k as u64 {
-        if w.begun < 32 {
-            return nothing(true);
+    // The task came less than t ago.
+    fn is_younger(self, clock: u64, t: u32) -> bool
+        ensures { result ≡ younger_than clock t self }
+    {
+        match self {
+            Stage::Never => false,
+            Stage::Guest(a, _) | Stage::Hyper(a, _) | Stage::Closed(a) => age_of(clock, a) < u64::from(t),
         }
-        w.begun = i;
-    }
-    w
-}
-
-fn see_stage(w: Seen, clock: u64, i: usize, r: Row, s: Stage) -> Seen
-    ensures { result ≡ stage_or_unfit clock i r s w }
-{
-    match s {
-        Stage::Never => w,
-        Stage::Guest(a, u) => see_guest(w, clock, i, r, a, u),
-        Stage::Hyper(a, l) => see_hyper(w, clock, i, r, a, l),
-        Stage::Closed(a) => { if a <= clock { w } else { nothing(true) } }
     }
 }
 
-fn is_younger(clock: u64, t: u32, s: Stage) -> bool
-    ensures { result ≡ younger_than clock t s }
-{
-    match s {
-        Stage::Never => false,
-        Stage::Guest(a, _) => age_of(clock, a) < t as u64,
-        Stage::Hyper(a, _) => age_of(clock, a) < t as u64,
-        Stage::Closed(a) => age_of(clock, a) < t as u64,
+impl Row {
+    // D at most T and E below D settle the other bounds of T and D.
+    #[tactic(auto, unfolding(crate::specs::WellFormed::fields_fit))]
+    fn fields_fit(self) -> bool
+        ensures { result ≡ fields_fit self }
+    {
+        self.t <= LARGEST_FIELD
+            && self.d <= self.t
+            && self.e < self.d
+            && 1 <= self.e
+            && within(self.c)
+            && within(self.k)
     }
-}
 
-fn is_hyper(s: Stage) -> bool
-    ensures { result ≡ is_hyper s }
-{
-    match s {
-        Stage::Never => false,
-        Stage::Guest(_, _) => false,
-        Stage::Hyper(_, _) => true,
-        Stage::Closed(_) => false,
-    }
-}
-
-// A task in the mask. Once one came too soon the tick is refused, and of the others nothing is asked any more. One that comes
-// neither too soon nor while it is Hyper arrives, and is ready.
-fn see_arrival(mut w: Seen, clock: u64, i: usize, t: u32, s: Stage) -> Seen
-    ensures { result ≡ arrival_seen clock i t s w }
-{
-    let refused = w.soon < 32;
-    if refused {
-        return w;
-    }
-    if is_younger(clock, t, s) {
-        w.soon = i;
-        return w;
-    }
-    if is_hyper(s) {
-        w.hyper = kept(w.hyper, i);
-        return w;
-    }
-    w.moved = true;
-    w.ready = kept(w.ready, i);
-    w
-}
-
-fn see_row(mut w: Seen, clock: u64, mask: u32, i: usize, r: Row) -> Seen
-    requires { i < 32 }
-    ensures { result ≡ row_seen clock mask i r w }
-{
-    if !fields_fit(r) {
-        return nothing(true);
-    }
-    let s = r.stage;
-    w.moved = false;
-    let v = see_stage(w, clock, i, r, s);
-    if named(mask, i) {
-        see_arrival(v, clock, i, r.t, s)
-    } else {
-        v
-    }
-}
-
-// The lowest task in the mask past the last row.
-fn lowest_past(mask: u32, count: usize) -> usize
-    requires { count ≤ 32 }
-    ensures { result ≡ past_from mask count (32 - count) }
-{
-    if (mask as u64) >> count == 0 {
-        return 32;
-    }
-    let mut i = count;
-    while i < 32 {
-        if named(mask, i) {
-            return i;
+    #[tactic(auto, unfolding(crate::specs::WellFormed::stage_fits))]
+    fn stage_fits(self, clock: u64) -> bool
+        ensures { result ≡ stage_fits clock self.c self.k self.e self.stage }
+    {
+        match self.stage {
+            Stage::Never => true,
+            Stage::Guest(a, used) => a <= clock && used <= u64::from(self.c) && age_of(clock, a) <= u64::from(self.e),
+            Stage::Hyper(a, left) => {
+                a <= clock && 1 <= left && left <= u64::from(self.k) && u64::from(self.e) < age_of(clock, a)
+            }
+            Stage::Closed(a) => a <= clock,
         }
-        i += 1;
     }
-    32
-}
 
-// The place of the task that runs.
-fn choose(w: Seen) -> usize
-    ensures { result ≡ chosen_by w }
-{
-    if w.begun < 32 {
-        return w.begun;
+    fn has_begun(self) -> bool
+        ensures { result ≡ has_begun self.k self.stage }
+    {
+        matches!(self.stage, Stage::Hyper(_, left) if left < u64::from(self.k))
     }
-    if w.waiting < 32 {
-        return w.waiting;
-    }
-    w.ready
-}
 
-// Refusals 8 to 12, in their order, where every place is well formed by itself.
-fn judge(clock: u64, count: usize, mask: u32, w: Seen) -> Judged
-    requires { count ≤ 32 }
-    ensures { result ≡ judged_by clock count mask w }
-{
-    if (count < 1) | (1_099_511_627_776 < clock) {
-        return Judged::Refused(Refusal::NotWellFormed(0));
+    fn has_budget(self) -> bool
+        ensures { result ≡ has_budget self.c self.stage }
+    {
+        matches!(self.stage, Stage::Guest(_, used) if used < u64::from(self.c))
     }
-    if clock == 1_099_511_627_776 {
-        return Judged::Refused(Refusal::ClockAtEnd(0));
-    }
-    let past = lowest_past(mask, count);
-    if past < 32 {
-        return Judged::Refused(Refusal::NoSuchTask(past + 1));
-    }
-    if w.soon < 32 {
-        return Judged::Refused(Refusal::ArrivalTooSoon(w.soon + 1));
-    }
-    if w.hyper < 32 {
-        return Judged::Refused(Refusal::ArrivalWhileHyper(w.hyper + 1));
-    }
-    Judged::Accepted(choose(w))
-}
 
-fn enforce(clock: u64, k: u32, e: u32, s: Stage) -> Stage
-    ensures { result ≡ enforced clock k e s }
-{
-    match s {
-        Stage::Never => s,
-        Stage::Guest(a, u) => {
-            if age_of(clock, a) == e as u64 {
-                Stage::Hyper(a, k as u64)
-            } else {
-                Stage::Guest(a, u)
+    // A comparison of the whole row has a branch for each field, which costs a third of a tick of few rows.
+    #[tactic(auto, unfolding(crate::specs::WellFormed::is_blank))]
+    fn is_blank(self) -> bool
+        ensures { result ≡ is_blank self }
+    {
+        (self.t == 0)
+            & (self.d == 0)
+            & (self.c == 0)
+            & (self.k == 0)
+            & (self.e == 0)
+            & matches!(self.stage, Stage::Never)
+    }
+
+    // Steps 1 and 2.
+    fn turn(&mut self, clock: u64, arrives: bool)
+        ensures { self.new ≡ turned_by clock arrives self.old }
+    {
+        if arrives {
+            self.stage = Stage::Guest(clock, 0);
+        } else if let Stage::Guest(a, _) = self.stage {
+            if age_of(clock, a) == u64::from(self.e) {
+                self.stage = Stage::Hyper(a, u64::from(self.k));
             }
         }
-        Stage::Hyper(_, _) => s,
-        Stage::Closed(_) => s,
     }
-}
 
-fn staged(r: Row, s: Stage) -> Row
-    ensures { result ≡ with_stage r s }
-{
-    Row {
-        t: r.t,
-        d: r.d,
-        c: r.c,
-        k: r.k,
-        e: r.e,
-        stage: s,
-    }
-}
-
-// Steps 1 and 2 on the row at place i.
-fn turn(clock: u64, mask: u32, i: usize, r: Row) -> Row
-    requires { i < 32 }
-    ensures { result ≡ turned_row clock mask i r }
-{
-    let s = r.stage;
-    if named(mask, i) {
-        staged(r, Stage::Guest(clock, 0))
-    } else {
-        staged(r, enforce(clock, r.k, r.e, s))
+    // Step 4, for the task that was chosen.
+    fn run(self, task: usize, signal: u8, early: bool) -> Outcome
+        requires { MayRun self }
+        ensures { result ≡ ran_from task signal early self.c self.stage }
+    {
+        match self.stage {
+            Stage::Guest(a, used) => run_guest(task, signal, self.c, a, used + 1),
+            Stage::Hyper(a, left) => run_hypertask(task, signal, early, a, left.saturating_sub(1)),
+            stage => Outcome {
+                stage,
+                taken: nobody(signal),
+            },
+        }
     }
 }
 
@@ -409,159 +225,205 @@ fn nobody(signal: u8) -> Taken
     }
 }
 
-fn run_hypertask(task: usize, signal: u8, early: bool, a: u64, l: u64) -> Outcome
-    ensures { result ≡ hypertask_ran task signal early a (l - 1) }
+// left: after this tick.
+fn run_hypertask(task: usize, signal: u8, early: bool, arrival: u64, left: u64) -> Outcome
+    ensures { result ≡ hypertask_ran task signal early arrival left }
 {
-    let last = l <= 1;
-    let ran = Ran::Hypertask(task);
-    let ignored = signal != 0;
-    if early | last {
-        Outcome {
-            stage: Stage::Closed(a),
-            taken: Taken {
-                ran: ran,
-                mark: Mark::Output,
-                ignored: ignored,
-            },
-        }
+    let (stage, mark) = if early || left == 0 {
+        (Stage::Closed(arrival), Mark::Output)
     } else {
-        Outcome {
-            stage: Stage::Hyper(a, l - 1),
-            taken: Taken {
-                ran: ran,
-                mark: Mark::Nothing,
-                ignored: ignored,
-            },
-        }
+        (Stage::Hyper(arrival, left), Mark::Nothing)
+    };
+    Outcome {
+        stage,
+        taken: Taken {
+            ran: Ran::Hypertask(task),
+            mark,
+            ignored: signal != 0,
+        },
     }
 }
 
-fn run_guest(task: usize, signal: u8, c: u32, a: u64, u: u64) -> Outcome
-    requires { u < c }
-    ensures { result ≡ guest_ran task signal c a (u + 1) }
+// used: after this tick.
+fn run_guest(task: usize, signal: u8, c: u32, arrival: u64, used: u64) -> Outcome
+    ensures { result ≡ guest_ran task signal c arrival used }
 {
-    let ran = Ran::Guest(task);
-    let ignored = signal != 0;
-    let used = u + 1;
-    if signal as usize == task {
-        return Outcome {
-            stage: Stage::Closed(a),
-            taken: Taken {
-                ran: ran,
-                mark: Mark::Output,
-                ignored: false,
-            },
-        };
-    }
-    if used == c as u64 {
-        Outcome {
-            stage: Stage::Guest(a, used),
-            taken: Taken {
-                ran: ran,
-                mark: Mark::BudgetUsedUp,
-                ignored: ignored,
-            },
-        }
+    let own = usize::from(signal) == task;
+    let (stage, mark) = if own {
+        (Stage::Closed(arrival), Mark::Output)
+    } else if used == u64::from(c) {
+        (Stage::Guest(arrival, used), Mark::BudgetUsedUp)
     } else {
-        Outcome {
-            stage: Stage::Guest(a, used),
-            taken: Taken {
-                ran: ran,
-                mark: Mark::Nothing,
-                ignored: ignored,
-            },
+        (Stage::Guest(arrival, used), Mark::Nothing)
+    };
+    Outcome {
+        stage,
+        taken: Taken {
+            ran: Ran::Guest(task),
+            mark,
+            ignored: signal != 0 && !own,
+        },
+    }
+}
+
+impl Seen {
+    // What the rows of the table show, which are turned on the way; 8 where some place isn't well formed by itself. It is one
+    // pass: one that checks and one that turns took 1.15 of the time.
+    fn over(rows: &mut [Row; PLACES], count: usize, clock: u64, mask: u32) -> Result<Seen, Refusal>
+        ensures answer { result ≡ cond (places_fit clock count rows.old) (Ok (seen_in clock mask (take count rows.old))) (Err (Refusal.NotWellFormed 0)) }
+        ensures turned { OnOk result (rows.new ≡ turned clock mask (take count rows.old) ++ drop count rows.old) }
+    {
+        if PLACES < count {
+            return Err(Refusal::NotWellFormed(0));
+        }
+        let (table, rest) = rows.split_at_mut(count);
+        let mut seen = Seen::default();
+        for (i, row) in table.iter_mut().enumerate() {
+            seen.see(i, row, clock, named(mask, i))?;
+        }
+        if rest.iter().all(|row| row.is_blank()) {
+            Ok(seen)
+        } else {
+            Err(Refusal::NotWellFormed(0))
         }
     }
-}
 
-// Step 4, for the task that was chosen.
-fn run(task: usize, signal: u8, early: bool, r: Row) -> Outcome
-    requires { (is_hyper r.stage || has_budget r.c r.stage) ≡ true }
-    ensures { result ≡ ran_from task signal early r.c r.stage }
-{
-    let s = r.stage;
-    match s {
-        Stage::Never => Outcome {
-            stage: s,
-            taken: nobody(signal),
-        },
-        Stage::Guest(a, u) => run_guest(task, signal, r.c, a, u),
-        Stage::Hyper(a, l) => run_hypertask(task, signal, early, a, l),
-        Stage::Closed(_) => Outcome {
-            stage: s,
-            taken: nobody(signal),
-        },
+    // One row further, which is turned on the way. 8 refuses one that isn't well formed, and a second hypertask that has begun.
+    #[tactic(auto, unfolding(crate::specs::OnePass::row_seen))]
+    fn see(&mut self, i: usize, row: &mut Row, clock: u64, arrives: bool) -> Result<(), Refusal>
+        ensures answer { result ≡ answer_if (row_fits clock row.old && not (second_begun row.old self.old)) }
+        ensures turned { OnOk result (row.new ≡ turned_by clock arrives row.old) }
+        ensures seen { OnOk result (self.new ≡ row_seen clock arrives i row.old self.old) }
+    {
+        if !(row.fields_fit() && row.stage_fits(clock)) {
+            return Err(Refusal::NotWellFormed(0));
+        }
+        if row.has_begun() && self.begun.replace(i).is_some() {
+            return Err(Refusal::NotWellFormed(0));
+        }
+        if arrives {
+            self.see_arrival(i, *row, clock);
+        }
+        row.turn(clock, arrives);
+        self.see_turned(i, *row);
+        Ok(())
     }
-}
 
-fn refuse(m: Machine, refusal: Refusal) -> Stepped
-    ensures { result ≡ refused_as m refusal }
-{
-    Stepped {
-        machine: m,
-        answer: Err(refusal),
+    // A task in the mask. Whether it comes too soon is asked only while none did, which saves time.
+    fn see_arrival(&mut self, i: usize, row: Row, clock: u64)
+        ensures { self.new ≡ arrival_seen clock i row self.old }
+    {
+        if self.soon.is_none() && row.stage.is_younger(clock, row.t) {
+            self.soon = Some(i);
+        }
+        if row.stage.is_hyper() {
+            self.hyper = self.hyper.or(Some(i));
+        }
     }
-}
 
-// Step 5, after the others.
-fn advance(rows: [Row; 32], count: usize, clock: u64, taken: Taken) -> Stepped
-    requires { clock < 1099511627776 }
-    ensures { result ≡ taken_with rows count clock taken }
-{
-    Stepped {
-        machine: Machine {
-            rows: rows,
-            count: count,
-            clock: clock + 1,
-        },
-        answer: Ok(taken),
+    // A row after steps 1 and 2.
+    fn see_turned(&mut self, i: usize, row: Row)
+        ensures { self.new ≡ turned_seen i row self.old }
+    {
+        if row.stage.is_hyper() {
+            self.waiting = self.waiting.or(Some(i));
+        }
+        if row.has_budget() {
+            self.ready = self.ready.or(Some(i));
+        }
+    }
+
+    // The place of the task that runs.
+    fn chosen(self) -> Option<usize>
+        ensures { result ≡ chosen_by self }
+    {
+        self.begun.or(self.waiting).or(self.ready)
     }
 }
 
 impl Machine {
-    // One tick: the next machine and the answer; a refused tick returns the machine it was given. The pass stands here, and
-    // each end returns by itself, since an array by value is copied at each call and each join. Its loops begin or end at
-    // count, which is not a constant: a loop over all 32 is unrolled, and the array taken apart.
+    // One tick: the next machine and the answer; a refused tick returns the machine it was given. Each arm returns by itself,
+    // since a machine is copied where arms join.
     pub fn step(self, mask: u32, signal: u8, early: bool) -> Stepped
         ensures { result ≡ step_of self mask signal early }
     {
-        let mut next = self.rows;
-        if 32 < self.count {
-            return refuse(self, Refusal::NotWellFormed(0));
-        }
-        let mut w = nothing(false);
-        let mut i: usize = 0;
-        while i < self.count {
-            let r = next[i];
-            w = see_row(w, self.clock, mask, i, r);
-            if w.unfit {
-                return refuse(self, Refusal::NotWellFormed(0));
+        let mut next = self;
+        match next.tick(mask, signal, early) {
+            Ok(taken) => {
+                return Stepped {
+                    machine: next,
+                    answer: Ok(taken),
+                };
             }
-            if w.moved {
-                next[i] = turn(self.clock, mask, i, r);
-            }
-            i += 1;
-        }
-        while i < 32 {
-            let r = next[i];
-            if !is_blank(r) {
-                return refuse(self, Refusal::NotWellFormed(0));
-            }
-            i += 1;
-        }
-        match judge(self.clock, self.count, mask, w) {
-            Judged::Refused(refusal) => return refuse(self, refusal),
-            Judged::Accepted(place) => {
-                let mut taken = nobody(signal);
-                if place < 32 {
-                    let r = next[place];
-                    let o = run(place + 1, signal, early, r);
-                    let s = o.stage;
-                    next[place] = staged(r, s);
-                    taken = o.taken;
-                }
-                return advance(next, self.count, self.clock, taken);
+            Err(refusal) => {
+                return Stepped {
+                    machine: self,
+                    answer: Err(refusal),
+                };
             }
         }
+    }
+
+    // The tick in place. One that is refused may leave rows turned.
+    fn tick(&mut self, mask: u32, signal: u8, early: bool) -> Result<Taken, Refusal>
+        ensures { step_of self.old mask signal early ≡ stepped_to self.old self.new result }
+    {
+        let seen = Seen::over(&mut self.rows, self.count, self.clock, mask)?;
+        let place = self.judge(mask, seen)?;
+        Ok(self.run(place, signal, early))
+    }
+
+    // Steps 4 and 5, for the place that was chosen.
+    fn run(&mut self, place: Option<usize>, signal: u8, early: bool) -> Taken
+        requires room { self.old.clock < 2 ^ 40 }
+        requires runs { IfSome place (λ i. (i < 32) × MayRun (get_or self.old.rows i no_row)) }
+        ensures { ran_on self.old.count self.old.clock self.old.rows signal early (found place) ≡ record { machine = self.new; answer = Ok result } }
+    {
+        self.clock += 1;
+        match place {
+            Some(i) => {
+                let outcome = self.rows[i].run(i + 1, signal, early);
+                self.rows[i].stage = outcome.stage;
+                outcome.taken
+            }
+            None => nobody(signal),
+        }
+    }
+
+    // The place of the lowest task in the mask past the last row.
+    fn lowest_past(&self, mask: u32) -> Option<usize>
+        requires { self.now.count ≤ 32 }
+        ensures { result ≡ place (first (past_last mask self.now.count) self.now.rows) }
+    {
+        if u64::from(mask) >> self.count == 0 {
+            return None;
+        }
+        (self.count..PLACES).find(|&i| named(mask, i))
+    }
+
+    // Refusals 8 to 12, in their order, where every place is well formed by itself; else the place of the task that runs.
+    #[tactic(auto, unfolding(crate::specs::OnePass::judged_by))]
+    fn judge(&self, mask: u32, seen: Seen) -> Result<Option<usize>, Refusal>
+        requires few { self.now.count ≤ 32 }
+        requires soon { IfSome seen.soon (λ i. i < 32) }
+        requires hyper { IfSome seen.hyper (λ i. i < 32) }
+        ensures { result ≡ judged_by self.now mask seen }
+    {
+        if self.count < 1 || LAST_CLOCK < self.clock {
+            return Err(Refusal::NotWellFormed(0));
+        }
+        if self.clock == LAST_CLOCK {
+            return Err(Refusal::ClockAtEnd(0));
+        }
+        if let Some(i) = self.lowest_past(mask) {
+            return Err(Refusal::NoSuchTask(i + 1));
+        }
+        if let Some(i) = seen.soon {
+            return Err(Refusal::ArrivalTooSoon(i + 1));
+        }
+        if let Some(i) = seen.hyper {
+            return Err(Refusal::ArrivalWhileHyper(i + 1));
+        }
+        Ok(seen.chosen())
     }
 }
