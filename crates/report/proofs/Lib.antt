@@ -1,3 +1,5 @@
+pub mod Lines
+pub mod Chunks
 pub mod Counts
 pub mod Ticks
 pub mod Results

@@ -1,5 +1,5 @@
 -- What the text needs to know of a plan: its rows fit 128 numbers, and no part is longer than the longest file. Assumes nothing.
-use mathlib.Core.Path.{◌≡◌, ap, ◌∙◌}
+use mathlib.Core.Path.{◌≡◌, sym, ap, ◌∙◌}
 use mathlib.Core.Bool.{Bool, true, false, cond}
 use mathlib.Core.List.{List}
 use Rattle.std.specs.Prelude.{None, Some, Ok}
@@ -11,7 +11,6 @@ use lib.Seq.{take_at}
 use borrow.Author.Tests.{eq-eqb, lt-ltb, le-ltb, ltb-false}
 use Rattle.plan.specs.Numbers.{table_of, AllBelow}
 use Rattle.plan.specs.Bodies.{tick_at, record_of, taken_of, after_taken, Takes}
-use Rattle.plan.specs.declared.Tick.{Tick}
 use Rattle.plan.specs.PlanFile.{section_at, sections_from, sections_of, body_of, read_refusal, part_of, rows_kind, entry_at, count}
 use Rattle.plan.specs.Answers.{Taken}
 use Rattle.plan.proofs.Tests.{or_inv}
@@ -44,28 +43,30 @@ module _ (f : List ℕ) (accepted : read_refusal f ≡ None) where
         let p = rows_shape (sections_of f) (meaning_plan f bytes accepted) in
         rw (the_part f rows_kind accepted) (p.1, p.2)
 
-    pub rows_few : length (part_of rows_kind f) / 4 ≤ 128
-    rows_few = omega (arith, rows_fit.0)
-
     -- the numbers of the rows, taken into 128 lent ones
-    pub taken_rows : (answer : Taken) (after : List ℕ) → Takes (part_of rows_kind f) (replicate 128 0) answer after
-        → take (length (part_of rows_kind f) / 4) after ≡ table_of (part_of rows_kind f)
+    pub taken_all : taken_of (part_of rows_kind f) 128 ≡ Ok (length (part_of rows_kind f) / 4)
     unfolding taken_of
-    taken_rows answer after t =
+    taken_all =
         let n = length (part_of rows_kind f) in
-        let e : taken_of (part_of rows_kind f) 128 ≡ Ok (n / 4) = rw (eq-eqb (n % 4) 0 (omega (arith, rows_fit.1)), le-ltb 128 (n / 4) rows_few) in
-        ap (take (n / 4)) (t.leaves ∙ ap (λ (x : Taken). after_taken x (part_of rows_kind f) (replicate 128 0)) e)
-        ∙ take_at (table_of (part_of rows_kind f)) (drop (n / 4) (replicate 128 0)) (n / 4) (numbers_length (part_of rows_kind f) (n / 4))
+        rw (eq-eqb (n % 4) 0 (omega (arith, rows_fit.1)), le-ltb 128 (n / 4) (omega (arith, rows_fit.0)))
+
+    module _ (answer : Taken) (after : List ℕ) (t : Takes (part_of rows_kind f) (replicate 128 0) answer after) (n : ℕ) (e : answer ≡ Ok n) where
+      taken_is : n ≡ length (part_of rows_kind f) / 4
+      taken_is =
+          let z : ◌≡◌ {A = Taken} (Ok n) (Ok (length (part_of rows_kind f) / 4)) = sym e ∙ t.answers ∙ taken_all in
+          cc
+
+      pub rows_few : n ≤ 128
+      rows_few = omega (arith, rows_fit.0, taken_is)
+
+      pub taken_rows : take n after ≡ table_of (part_of rows_kind f)
+      taken_rows =
+          ap (take n) (t.leaves ∙ ap (λ (x : Taken). after_taken x (part_of rows_kind f) (replicate 128 0)) taken_all)
+          ∙ take_at (table_of (part_of rows_kind f)) (drop (length (part_of rows_kind f) / 4) (replicate 128 0)) n
+          (numbers_length (part_of rows_kind f) (length (part_of rows_kind f) / 4) ∙ sym taken_is)
 
 -- ## Records
 
-pub record_read : (s : List ℕ) (i : ℕ) (t : Tick) → i < length s / 8 → Some t ≡ record_of s i → t ≡ tick_at s i
+pub record_is : (s : List ℕ) (i : ℕ) → i < length s / 8 → record_of s i ≡ Some (tick_at s i)
 unfolding record_of
-record_read s i t h e = let z : Some t ≡ Some (tick_at s i) = rw (lt-ltb i (length s / 8) h) at e in cc
-
-pub record_there : (s : List ℕ) (i : ℕ) → i < length s / 8 → None ≡ record_of s i → ⊥
-unfolding record_of
-record_there s i h e =
-    let z : None ≡ Some (tick_at s i) = rw (lt-ltb i (length s / 8) h) at e in
-    let y : ◌≡◌ {A = ℕ} 0 1 = cc in
-    omega arith
+record_is s i h = rw (lt-ltb i (length s / 8) h)

@@ -1,12 +1,13 @@
 -- The rows' lines from the analysis's results. Assumes nothing.
 use mathlib.Core.Path.{◌≡◌, refl, sym, ap, ◌∙◌}
-use mathlib.Core.List.{List, [], ◌++◌}
-use Prim.Native.Nat.{ℕ, zero, suc, ◌+◌, ◌-◌, ◌*◌, ◌≤◌, ◌<◌}
-use native.Mathlib.Numerals.{add-one}
+use mathlib.Core.List.{List, ◌∷◌, ◌++◌}
+use Prim.Native.Nat.{ℕ, ◌+◌, ◌*◌, ◌/◌, ◌≤◌, ◌<◌}
 use native.Mathlib.Omega.{arith}
 use lib.ListN.{length, get_or, drop}
 use Rattle.std.specs.Prelude.{Ok}
-use Rattle.least.proofs.Lists.{flat_at}
+use Rattle.least.specs.Lists.{flat}
+use Rattle.least.proofs.Lists.{flat_at, flat_same}
+use Rattle.equations.specs.Table.{T, D, C, K}
 use Rattle.equations.specs.Hypertask.{response, value_of, E}
 use Rattle.equations.specs.Guest.{guest}
 use Rattle.equations.specs.Analysis.{analysis, three_of, results, results_after}
@@ -14,17 +15,13 @@ use Rattle.equations.proofs.Exactly.{passes}
 use Rattle.start.specs.Start.{start_answer}
 use Rattle.start.proofs.Places.{same_answer}
 use Rattle.report.specs.Report.{row_lines}
-use Rattle.report.specs.Inside.{result_line, result_lines}
+use Rattle.text.specs.Lines.{row_line}
+use Rattle.report.specs.Inside.{result_line}
+use Rattle.report.proofs.Lines.{from_front}
 
-pub rows_more : (s x : List ℕ) (i n : ℕ) → i < n → result_line s x i ++ result_lines s x (i + 1) (n - (i + 1)) ≡ result_lines s x i (n - i)
-unfolding result_lines
-rows_more s x i n h =
-    let k : n - i ≡ suc (n - suc i) = omega arith in
-    rw (k, add-one i)
-
-pub rows_end : (s x : List ℕ) (i n : ℕ) → n ≤ i → result_lines s x i (n - i) ≡ []
-unfolding result_lines
-rows_end s x i n h = let k : n - i ≡ 0 = omega arith in rw k
+-- the line of row i
+abbrev row_at : List ℕ → ℕ → List ℕ
+row_at s i = row_line (i + 1) (T s i ∷ D s i ∷ C s i ∷ K s i ∷ three_of s i)
 
 module _ (s rest : List ℕ) (n : ℕ) where
   abbrev x : List ℕ
@@ -41,11 +38,11 @@ module _ (s rest : List ℕ) (n : ℕ) where
   third_at : (j : ℕ) → j < n → get_or x (3 * j + 2) 0 ≡ value_of (guest s j)
   third_at j h = flat_at (three_of s) 3 (λ i. refl) n j 2 rest 0 h (omega arith)
 
-  lines_from : (k i : ℕ) → i + k ≤ n → result_lines s x i k ≡ row_lines s i k
-  unfolding result_lines row_lines
-  lines_from zero i b = refl
-  lines_from (suc k) i b =
-      rw (first_at i (omega arith), second_at i (omega arith), third_at i (omega arith), lines_from k (suc i) (omega arith))
+  lines_as : flat (result_line s x) n ≡ row_lines s 0 n
+  unfolding row_lines
+  lines_as =
+      flat_same (result_line s x) (row_at s) n (λ i b. rw (first_at i b, second_at i b, third_at i b))
+      ∙ sym (from_front (row_at s) (row_lines s) (λ i. refl) (λ i k. refl) n)
 
 -- the results that an accepted table leaves
 module _ (s lent : List ℕ) (n : ℕ) (room : length lent ≡ 96) (accepted : start_answer s ≡ Ok n) where
@@ -55,6 +52,9 @@ module _ (s lent : List ℕ) (n : ℕ) (room : length lent ≡ 96) (accepted : s
   pub tasks_few : n ≤ 32
   tasks_few = let p = passes s (length lent) n analysed in omega (arith, p.tasks, p.shape.few)
 
-  pub row_lines_lem : result_lines s (results_after s lent) 0 n ≡ row_lines s 0 n
+  pub tasks_are : length s / 4 ≡ n
+  tasks_are = sym (passes s (length lent) n analysed).tasks
+
+  pub row_lines_lem : flat (result_line s (results_after s lent)) n ≡ row_lines s 0 n
   unfolding results_after
-  row_lines_lem = rw analysed (lines_from s (drop (3 * n) lent) n n 0 (omega arith))
+  row_lines_lem = rw analysed (lines_as s (drop (3 * n) lent) n)

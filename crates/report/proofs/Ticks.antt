@@ -1,7 +1,7 @@
 -- A script's ticks one after the other: the run so far, and the lines that are left. Assumes nothing.
 use mathlib.Core.Path.{◌≡◌, sym, ap, ◌∙◌}
-use mathlib.Core.List.{List, [], ◌++◌}
-use Prim.Native.Nat.{ℕ, zero, suc, ◌+◌, ◌-◌, ◌≤◌, ◌<◌}
+use mathlib.Core.List.{List, [], ◌++◌, append-nil, append_assoc}
+use Prim.Native.Nat.{ℕ, zero, suc, ◌+◌, ◌≤◌}
 use native.Mathlib.Numerals.{add-one}
 use native.Mathlib.Omega.{arith}
 use lib.ListN.{length, length-append}
@@ -14,7 +14,7 @@ use Rattle.plan.specs.declared.Tick.{Tick as PlanTick}
 use Rattle.plan.specs.Bodies.{tick_at}
 use Rattle.demands.specs.Runs.{Tick, Run, taken_by, after, onward, run}
 use Rattle.text.specs.Lines.{tick_line}
-use Rattle.report.specs.Report.{tick_of, ticks_from, tick_lines}
+use Rattle.report.specs.Report.{tick_of, ticks_from, answer_to, tick_lines}
 
 -- the run of the first i records
 abbrev pub so_far : Machine → List ℕ → ℕ → Run
@@ -24,6 +24,17 @@ onward_last : (r : Run) (s : List ℕ) (k i : ℕ) → onward r (ticks_from s k 
 unfolding onward ticks_from
 onward_last r s k zero = let e : k + 0 ≡ k = omega arith in rw e
 onward_last r s k (suc i) = let e : k + suc i ≡ suc k + i = omega arith in rw e (onward_last (after r (tick_of s k)) s (suc k) i)
+
+lines_last : (r : Run) (s : List ℕ) (k i : ℕ) → tick_lines r (ticks_from s k (suc i))
+    ≡ tick_lines r (ticks_from s k i)
+    ++ tick_line (onward r (ticks_from s k i)).machine.clock (answer_to (onward r (ticks_from s k i)) (tick_of s (k + i)))
+unfolding onward ticks_from tick_lines
+lines_last r s k zero = let e : k + 0 ≡ k = omega arith in rw e (append-nil _)
+lines_last r s k (suc i) =
+    let e : k + suc i ≡ suc k + i = omega arith in
+    let line : List ℕ = tick_line r.machine.clock (answer_to r (tick_of s k)) in
+    let rest : List ℕ = tick_lines (after r (tick_of s k)) (ticks_from s (suc k) i) in
+    rw e (ap (λ (t : List ℕ). line ++ t) (lines_last (after r (tick_of s k)) s (suc k) i) ∙ sym (append_assoc line rest _))
 
 pub so_far_more : (m : Machine) (s : List ℕ) (i : ℕ) → so_far m s (i + 1) ≡ after (so_far m s i) (tick_of s i)
 so_far_more m s i =
@@ -62,14 +73,10 @@ module _ (r : Run) (s : List ℕ) (i : ℕ) (m : Machine) (tick : PlanTick) (st 
   unfolding after
   next_machine = ap (λ (x : Stepped). x.machine) (sym same_step)
 
-  -- the line of record i, and those that are left after it
-  pub lines_more : (n : ℕ) → i < n → tick_line m.clock st.answer ++ tick_lines (after r (tick_of s i)) (ticks_from s (i + 1) (n - (i + 1)))
-      ≡ tick_lines r (ticks_from s i (n - i))
-  unfolding tick_lines ticks_from
-  lines_more n h =
-      let k : n - i ≡ suc (n - suc i) = omega arith in
-      rw (k, add-one i, ← here, next_answer)
-
-pub lines_end : (r : Run) (s : List ℕ) (i n : ℕ) → n ≤ i → tick_lines r (ticks_from s i (n - i)) ≡ []
-unfolding tick_lines ticks_from
-lines_end r s i n h = let k : n - i ≡ 0 = omega arith in rw k
+  -- the lines of the first records, and then that of record i
+  pub lines_turn : (start : Machine) → r ≡ so_far start s i → tick_lines (run start []) (ticks_from s 0 i) ++ tick_line m.clock st.answer
+      ≡ tick_lines (run start []) (ticks_from s 0 (i + 1))
+  unfolding onward
+  lines_turn start e =
+      let z : 0 + i ≡ i = omega arith in
+      rw (add-one, lines_last (run start []) s 0 i, z, ← e, ← here, next_answer)

@@ -2,11 +2,11 @@
 use mathlib.Core.Path.{◌≡◌, refl, sym, ap, ◌∙◌}
 use mathlib.Core.Bool.{Bool, true, false}
 use mathlib.Core.List.{List, ◌++◌}
-use Prim.Native.Nat.{ℕ, ◌≤◌, ◌<◌}
+use Prim.Native.Nat.{ℕ, ◌≤◌}
 use native.Mathlib.Omega.{arith}
 use lib.ListN.{length, take, drop, length-append}
 use lib.Seq.{length-take-le}
-use borrow.Author.Tests.{le-leb, lt-leb}
+use borrow.Author.Tests.{le-leb}
 use Rattle.std.specs.Prelude.{Ok, Err}
 use Rattle.text.specs.Put.{Put}
 use Rattle.text.proofs.Laws.{put_counts, put_whole}
@@ -30,11 +30,6 @@ module _ (file lent : List ℕ) where
   pub written_at_once : (after : List ℕ) (r : ℕ) → Put lent 0 (text_of file) after r → r ≤ longest → longest ≤ length lent
       → Reports file lent (Ok r) after
   written_at_once after r p short room = written after r p short (omega (arith, put_counts p (omega arith)))
-
-  pub too_short : (n : ℕ) → n ≡ length (text_of file) → length lent < n → Reports file lent (Err (needing n)) lent
-  too_short n e h =
-      let f : fits (text_of file) lent ≡ false = lt-leb (length (text_of file)) (length lent) (omega arith) in
-      record { answers = rw f (ap said_short e); leaves = rw f }
 
 -- what is written lies in the lent bytes, as `&text[..n]` asks
 pub written_counts : (file lent after : List ℕ) (x : Reported) (n : ℕ) → x ≡ Ok n → Reports file lent x after

@@ -5,84 +5,90 @@ mod rows;
 mod script;
 mod totals;
 
-ghost use Rattle.std.specs.Prelude.{◌≡◌, ◌≤◌, length, Ok};
+ghost use Rattle.std.specs.Prelude.{◌≡◌, ◌+◌, ◌≤◌, length, IsOk};
 ghost use Rattle.start.specs.Start.{start_answer, start_of};
-ghost use Rattle.text.specs.Put.{Put};
-ghost use Rattle.report.specs.Report.{answer_by, table_text, text_of, Reports};
+ghost use Rattle.text.specs.Put.{Put, Puts};
+ghost use Rattle.report.specs.Report.{table_text, text_of, Reports};
 ghost use Rattle.report.specs.Inside.{longest};
 
 use machine::Machine;
-use text::lines::{put_accept, put_refusal};
+use text::Text;
 
 // Lent bytes from which no text can be too long.
 const LONGEST: usize = 655360;
 
 // Lent bytes too few; how many are needed.
-#[derive(Clone, Copy)]
+#[derive(Clone, Copy, Debug, PartialEq, Eq)]
 pub struct TooShort {
     pub needed: usize,
 }
 
-// The text of an accepted table of n tasks and a script.
-fn put_accepted(text: &mut [u8], m: Machine, n: usize, table: &[u32], script: &[u8]) -> usize
-    requires { (start_answer table.now ≡ Ok n) × (m ≡ (start_of table.now).machine) × (length script.now ≤ 65536) }
-    ensures puts { Put text.old 0 (answer_by table.now script.now (Ok n)) text.new result }
-    ensures short { result ≤ longest }
+// The text of an accepted table, whose fresh machine is given, and a script.
+fn put_accepted(text: &mut Text, machine: Machine, table: &[u32], script: &[u8])
+    requires { (IsOk (start_answer table.now)) × (machine ≡ (start_of table.now).machine) × (length script.now ≤ 65536) }
+    ensures puts { Puts text.old (table_text table.now script.now) text.new }
+    ensures short { text.new.at ≤ text.old.at + longest }
 {
     let mut results = [0u32; 96];
-    let _ = analysis::analyse(table, &mut results);
-    let a = put_accept(text, 0, n as u64);
-    let b = rows::put_rows(text, a, table, &results, n);
-    script::put_script(text, b, m, n, script)
+    let n = analysis::analyse(table, &mut results).unwrap();
+    text.put_accept(n as u64);
+    rows::put_rows(text, table, &results);
+    script::put_script(text, machine, n, script);
 }
 
 // The text of a table and a script.
-fn put_table(text: &mut [u8], table: &[u32], script: &[u8]) -> usize
+fn put_table(text: &mut Text, table: &[u32], script: &[u8])
     requires { length script.now ≤ 65536 }
-    ensures puts { Put text.old 0 (table_text table.now script.now) text.new result }
-    ensures short { result ≤ longest }
+    ensures puts { Puts text.old (table_text table.now script.now) text.new }
+    ensures short { text.new.at ≤ text.old.at + longest }
 {
     let started = start::start(table);
-    let answer = started.answer;
-    match answer {
-        Ok(n) => put_accepted(text, started.machine, n, table, script),
-        Err(refusal) => put_refusal(text, 0, refusal),
+    match started.answer {
+        Ok(_) => put_accepted(text, started.machine, table, script),
+        Err(refusal) => text.put_refusal(refusal),
     }
 }
 
-// The text of a file, as far as the lent bytes reach; the answer is its whole length.
-fn put_text(text: &mut [u8], file: &[u8]) -> usize
-    ensures puts { Put text.old 0 (text_of file.now) text.new result }
-    ensures short { result ≤ longest }
+// The text of a file.
+fn put_file(text: &mut Text, file: &[u8])
+    ensures puts { Puts text.old (text_of file.now) text.new }
+    ensures short { text.new.at ≤ text.old.at + longest }
 {
     if let Err(refusal) = plan::reader::check(file) {
-        return put_refusal(text, 0, refusal);
+        text.put_refusal(refusal);
+        return;
     }
     let mut table = [0u32; 128];
-    let rows = plan::reader::rows_of(file);
-    let _ = plan::bodies::table_of(rows, &mut table);
-    let n = rows.len() / 4;
-    put_table(text, &table[..n], plan::reader::script_of(file))
+    let n = plan::bodies::table_of(plan::reader::rows_of(file), &mut table).unwrap();
+    put_table(text, &table[..n], plan::reader::script_of(file));
+}
+
+// The text of a file at the front of the bytes, as far as they reach; the answer is its whole length.
+fn put_text(bytes: &mut [u8], file: &[u8]) -> usize
+    ensures puts { Put bytes.old 0 (text_of file.now) bytes.new result }
+    ensures short { result ≤ longest }
+{
+    let mut text = Text { bytes, at: 0 };
+    put_file(&mut text, file);
+    text.at
 }
 
 // How many bytes the text of a file has.
 fn needed(file: &[u8]) -> usize
     ensures { (result ≡ length (text_of file.now)) × (result ≤ longest) }
 {
-    let mut none = [0u8; 1];
-    put_text(&mut none, file)
+    put_text(&mut [0], file)
 }
 
 // The whole text at the front of the lent bytes, and nothing past it touched; or how many bytes are needed, and nothing touched.
 pub fn report(file: &[u8], text: &mut [u8]) -> Result<usize, TooShort>
     ensures { Reports file.now text.old result text.new }
 {
-    if LONGEST <= text.len() {
-        return Ok(put_text(text, file));
-    }
-    let n = needed(file);
-    if text.len() < n {
-        return Err(TooShort { needed: n });
+    if text.len() < LONGEST {
+        let needed = needed(file);
+        if text.len() < needed {
+            return Err(TooShort { needed });
+        }
     }
     Ok(put_text(text, file))
 }

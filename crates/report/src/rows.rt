@@ -1,57 +1,21 @@
 // The lines of an accepted table's rows.
-ghost use Rattle.std.specs.Prelude.{◌≡◌, ◌+◌, ◌*◌, ◌≤◌, ◌<◌, get_or};
-ghost use Rattle.text.specs.Put.{Put};
-ghost use Rattle.report.specs.Inside.{result_line, result_lines};
+ghost use Rattle.std.specs.Prelude.{◌≡◌, ◌+◌, ◌*◌, ◌/◌, ◌≤◌, length, min};
+ghost use Rattle.least.specs.Lists.{flat};
+ghost use Rattle.text.specs.Put.{Puts};
+ghost use Rattle.report.specs.Inside.{result_line};
 
-use text::lines::put_row;
+use text::Text;
 
-fn wide(x: u32) -> u64
-    ensures { result ≡ x }
+// Each row of the table with its results.
+pub(crate) fn put_rows(text: &mut Text, table: &[u32], results: &[u32])
+    ensures puts { Puts text.old (flat (result_line table.now results.now) (min (length table.now / 4) (length results.now / 3))) text.new }
+    ensures short { text.new.at ≤ text.old.at + 168 * (length table.now / 4) }
 {
-    x as u64
-}
-
-// The number at i, 0 past the end.
-fn number_at(s: &[u32], i: usize) -> u64
-    ensures { result ≡ get_or s.now i 0 }
-{
-    if i < s.len() { wide(s[i]) } else { 0 }
-}
-
-fn put_row_at(text: &mut [u8], at: usize, table: &[u32], results: &[u32], i: usize) -> usize
-    requires { i < 32 }
-    ensures puts { Put text.old at (result_line table.now results.now i) text.new result }
-    ensures short { result ≤ at + 168 }
-{
-    let numbers = [
-        number_at(table, 4 * i),
-        number_at(table, 4 * i + 1),
-        number_at(table, 4 * i + 2),
-        number_at(table, 4 * i + 3),
-        number_at(results, 3 * i),
-        number_at(results, 3 * i + 1),
-        number_at(results, 3 * i + 2),
-    ];
-    put_row(text, at, i as u64 + 1, numbers)
-}
-
-// The lines of the first n rows.
-pub(crate) fn put_rows(
-    text: &mut [u8],
-    at: usize,
-    table: &[u32],
-    results: &[u32],
-    n: usize,
-) -> usize
-    requires { n ≤ 32 }
-    ensures puts { Put text.old at (result_lines table.now results.now 0 n) text.new result }
-    ensures short { result ≤ at + 168 * n }
-{
-    let mut to = at;
-    let mut i: usize = 0;
-    while i < n {
-        to = put_row_at(text, to, table, results, i);
-        i += 1;
+    let (rows, _) = table.as_chunks::<4>();
+    let (results, _) = results.as_chunks::<3>();
+    for (i, (row, result)) in rows.iter().zip(results).enumerate() {
+        let [t, d, c, k] = *row;
+        let [r, e, g] = *result;
+        text.put_row(i as u64 + 1, [t, d, c, k, r, e, g].map(u64::from));
     }
-    to
 }

@@ -83,6 +83,6 @@ module _ (s : List ℕ) where
           (λ (x : (r ≡ Refusal.NoActivePeriod (w.row + 1)) × NoActive s w.row). rw x.0 (omega (arith, w.below)))
           (λ (x : (r ≡ Refusal.StartTooLate (w.row + 1)) × LateJob s w.row). rw x.0 (omega (arith, w.below)))
           (response_fails s w.row r w.fails))
-          (λ (w : (hypertask_check s ≡ Ok tt) × FirstFailing (guest s) 0 (rows s) r).
+          (λ (w : (hypertask_check s ≡ (Ok tt)) × FirstFailing (guest s) 0 (rows s) r).
           omega (arith, task_of_row s w.1.row r w.1.fails, w.1.below))
           (refused_from_5 s r q)

@@ -3,15 +3,16 @@ use native.Mathlib.Nat.{pow-suc}
 use Prim.Native.Nat.{ℕ, zero, suc, ◌+◌, ◌/◌, ◌%◌, ◌^◌, ◌<◌, ◌≤◌}
 use mathlib.Core.Path.{◌≡◌, refl, sym, ap, ◌∙◌}
 use mathlib.Core.Bool.{Bool, true, false}
-use mathlib.Core.List.{List, [], ◌∷◌, ◌++◌}
-use native.Mathlib.Numerals.{add-one}
+use mathlib.Core.List.{List, [], ◌∷◌, ◌++◌, append-nil, append_assoc}
 use native.Mathlib.Omega.{arith}
-use lib.ListN.{length, drop, get_or, length-append, length-set}
-use lib.Seq.{sets, set_out, length-sets, drop-cons, sets-eq}
+use lib.ListN.{length, take, drop, get_or, length-append, length-set}
+use lib.Seq.{sets, set_out, length-sets, sets-eq}
 use lib.Dec.{leb, ltb}
 use borrow.Author.Tests.{leb-true, leb-false, lt-ltb, le-ltb, ltb-true, ltb-false}
+use Rattle.std.proofs.lemmas.List.{take_more}
 use Rattle.least.proofs.Lists.{sets_append}
-use Rattle.text.specs.Put.{Put, digits_in, digits_of, spaced, last_place}
+use Rattle.text.specs.declared.Text.{Text}
+use Rattle.text.specs.Put.{Put, Puts, digits_in, digits_of, spaced, last_place}
 
 sets_out : (l : List ℕ) (i : ℕ) (t : List ℕ) → length l ≤ i → sets l i t ≡ l
 sets_out l i [] h = refl
@@ -40,21 +41,12 @@ put_then {a} {b} {c} {t} {u} {i} {j} {k} p q =
         sets_out b j u (omega (arith, p.next, p.room, put_length p)) ∙ p.bytes
         ∙ sym (sets_out (sets a i t) (i + length t) u (rw (length-sets a i t) (omega (arith, p.room)))) ∙ sym (sets_append a i t u)
 
--- the invariant of a loop of pieces: to put w into a at i, it is left to put u into b at j
-abbrev pub Left : List ℕ → ℕ → List ℕ → List ℕ → ℕ → List ℕ → Type 0
-Left a i w b j u = (o : List ℕ) (r : ℕ) → Put b j u o r → Put a i w o r
+-- the same of calls on one text: nothing is put, and one piece after the other
+pub puts_none : {x : Text} → length x.bytes.now ≤ last_place → x.at ≤ last_place → Puts x [] x
+puts_none h k = record { same = refl; put = put_none h k }
 
--- a turn puts t, the first piece of what is left
-pub left_more : {a w b b' : List ℕ} {i j j' : ℕ} (t u u' : List ℕ) → Left a i w b j u → Put b j t b' j'
-    → t ++ u' ≡ u → Left a i w b' j' u'
-left_more t u u' l p e o r q = l o r (rw (← e) (put_then p q))
-
--- nothing is left
-pub left_none : {a w b : List ℕ} {i j : ℕ} (u : List ℕ) → Left a i w b j u → length b ≤ last_place → j ≤ last_place → u ≡ [] → Put a i w b j
-left_none u l h k e = l _ _ (rw e (put_none h k))
-
-pub drop_more : (l : List ℕ) (i : ℕ) → i < length l → (get_or l i 0 ∷ []) ++ drop (i + 1) l ≡ drop i l
-drop_more l i h = rw (add-one, drop-cons l i 0 h)
+pub puts_then : {x y z : Text} {t u : List ℕ} → Puts x t y → Puts y u z → Puts x (t ++ u) z
+puts_then p q = record { same = q.same ∙ p.same; put = put_then p.put q.put }
 
 -- enough room for the digits is enough
 digits_same : (f g x : ℕ) → x < f → x < g → digits_in f x ≡ digits_in g x
@@ -75,9 +67,14 @@ pub digits_more : (x : ℕ) → 10 ≤ x → digits_of (x / 10) ++ ((48 + x % 10
 unfolding digits_of digits_in
 digits_more x h = rw (le-ltb x 10 h, digits_same (suc (x / 10)) x (x / 10) (omega arith) (omega arith))
 
-pub spaced_more : (l : List ℕ) (i : ℕ) → i < length l → (32 ∷ digits_of (get_or l i 0)) ++ spaced (drop (i + 1) l) ≡ spaced (drop i l)
+spaced_last : (l : List ℕ) (x : ℕ) → spaced (l ++ (x ∷ [])) ≡ spaced l ++ (32 ∷ digits_of x)
 unfolding spaced
-spaced_more l i h = rw (add-one, drop-cons l i 0 h)
+spaced_last [] x = append-nil _
+spaced_last (y ∷ l) x = rw (spaced_last l x) (ap (λ (t : List ℕ). 32 ∷ t) (sym (append_assoc (digits_of y) (spaced l) (32 ∷ digits_of x))))
+
+-- one number more after a space
+pub spaced_turn : (l : List ℕ) (i : ℕ) → i < length l → spaced (take i l) ++ (32 ∷ digits_of (get_or l i 0)) ≡ spaced (take (i + 1) l)
+spaced_turn l i h = rw (take_more l i 0 h, spaced_last)
 
 -- the place after a text that is below the last tells its length
 pub put_counts : {a t b : List ℕ} {j : ℕ} → Put a 0 t b j → j < last_place → j ≡ length t

@@ -1,6 +1,7 @@
 -- Bytes put into lent memory piece by piece, and the decimal digits of a number. Assumes nothing.
 use Rattle.std.specs.Prelude.{ℕ, zero, suc, ◌+◌, ◌/◌, ◌%◌, ◌≤◌, min, ◌≡◌, Bool, true, false, List, [], ◌∷◌, ◌++◌, length, ltb}
 use Rattle.std.proofs.lemmas.List.Edits.{sets}
+use Rattle.text.specs.declared.Text.{Text}
 
 -- one step: a digit, or the digits of the rest and then the last
 abbrev pub digits_by : Bool → (ℕ → List ℕ) → ℕ → List ℕ
@@ -31,3 +32,8 @@ pub record Put (a : List ℕ) (i : ℕ) (t : List ℕ) (b : List ℕ) (j : ℕ) 
   pub bytes : b ≡ sets a i t
   pub next : j ≡ min last_place (i + length t)
   pub room : length a ≤ last_place
+
+-- What a call does once to a text: the same lent bytes, with those of t put at its place, and the place after them.
+pub record Puts (old : Text) (t : List ℕ) (new : Text) : Type 0 where
+  pub same : new.bytes.ghost_name ≡ old.bytes.ghost_name
+  pub put : Put old.bytes.now old.at t new.bytes.now new.at

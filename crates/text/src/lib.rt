@@ -1,69 +1,59 @@
-// Text in lent bytes. Each function puts its bytes from place `at` on, as far as the lent ones reach, and answers the
-// place after them, also past their end: so an empty slice tells how much room a text needs.
+// Text in lent bytes. Each method puts its bytes from the text's place on, as far as the lent ones reach, and moves the place past
+// them, also past the lent bytes' end: so a short slice tells how much room a text needs.
 #![tactic(auto)]
 
-pub mod lines;
+mod lines;
 
-ghost use Rattle.std.specs.Prelude.{◌≡◌, [], ◌∷◌, ◌+◌, ◌*◌, ◌≤◌, min, length};
-ghost use Rattle.text.specs.Put.{Put, digits_of, spaced, last_place};
+ghost use Rattle.std.specs.Prelude.{◌^◌, ◌<◌};
 
-// The place after `at`; there is none past the last that can be counted.
-fn next(at: usize) -> usize
-    ensures { result ≡ min last_place (at + 1) }
-{
-    if at < 18446744073709551615 {
-        at + 1
-    } else {
-        at
-    }
+// Lent bytes, and the place of the byte that comes next, of which other crates' proofs know by the ghost field that it fits.
+#[derive(Drop)]
+pub struct Text<'a> {
+    pub bytes: &'a mut [u8],
+    pub at: usize,
+    pub ghost counted: { at < 2 ^ 64 },
 }
 
-pub fn put_byte(text: &mut [u8], at: usize, b: u8) -> usize
-    ensures { Put text.old at (b ∷ []) text.new result }
-{
-    if at < text.len() {
-        text[at] = b;
-        at + 1
-    } else {
-        next(at)
-    }
-}
+impl Text<'_> {
+    ghost use Rattle.std.specs.Prelude.{[], ◌∷◌, ◌+◌, ◌*◌, ◌≤◌, length};
+    ghost use Rattle.text.specs.Put.{Puts, digits_of, spaced};
 
-pub fn put_bytes(text: &mut [u8], at: usize, bytes: &[u8]) -> usize
-    ensures { Put text.old at bytes.now text.new result }
-{
-    let mut to = at;
-    let mut i: usize = 0;
-    while i < bytes.len() {
-        to = put_byte(text, to, bytes[i]);
-        i += 1;
+    pub fn put_byte(&mut self, b: u8)
+        ensures { Puts self.old (b ∷ []) self.new }
+    {
+        if self.at < self.bytes.len() {
+            self.bytes[self.at] = b;
+        }
+        self.at = self.at.saturating_add(1);
     }
-    to
-}
 
-// The digits of x. No number has more than 20.
-pub fn put_number(text: &mut [u8], at: usize, x: u64) -> usize
-    ensures puts { Put text.old at (digits_of x) text.new result }
-    ensures short { result ≤ at + 20 }
-{
-    if x < 10 {
-        return put_byte(text, at, 48 + x as u8);
+    pub fn put_bytes(&mut self, bytes: &[u8])
+        ensures { Puts self.old bytes.now self.new }
+    {
+        for &b in bytes {
+            self.put_byte(b);
+        }
     }
-    let last = put_number(text, at, x / 10);
-    put_byte(text, last, 48 + (x % 10) as u8)
-}
 
-// Each number after a space.
-pub fn put_spaced(text: &mut [u8], at: usize, numbers: &[u64]) -> usize
-    ensures puts { Put text.old at (spaced numbers.now) text.new result }
-    ensures short { result ≤ at + 21 * length numbers.now }
-{
-    let mut to = at;
-    let mut i: usize = 0;
-    while i < numbers.len() {
-        let after = put_byte(text, to, b' ');
-        to = put_number(text, after, numbers[i]);
-        i += 1;
+    // The digits of x. No number has more than 20.
+    pub fn put_number(&mut self, x: u64)
+        ensures puts { Puts self.old (digits_of x) self.new }
+        ensures short { self.new.at ≤ self.old.at + 20 }
+    {
+        if 10 <= x {
+            self.put_number(x / 10);
+        }
+        self.put_byte(b'0' + (x % 10) as u8);
     }
-    to
+
+    // Each number after a space.
+    pub fn put_spaced(&mut self, numbers: &[u64])
+        ensures puts { Puts self.old (spaced numbers.now) self.new }
+        ensures short { self.new.at ≤ self.old.at + 21 * length numbers.now }
+    {
+        for &x in numbers {
+            self.put_byte(b' ');
+            self.put_number(x);
+        }
+    }
 }

@@ -1,18 +1,15 @@
-use Rattle.report.proofs.Whole.{written, written_at_once, too_short}
 use native.Mathlib.Omega.{arith}
+use Rattle.report.proofs.Whole.{written, written_at_once}
 use Rattle.report.proofs.report.Goals as goal
-
-pub returns-then-text-ge-LONGEST : goal.returns-then-text-ge-LONGEST
-returns-then-text-ge-LONGEST c =
-    let x = c.args in
-    let p = c.put_text.ensures in
-    written_at_once x.file.now x.text.now _ _ p.puts p.short c.if-text-ge-LONGEST.true
-
-pub returns-then-text-n : goal.returns-then-text-n
-returns-then-text-n c = too_short c.args.file.now c.args.text.now _ c.needed-n.ensures.0 c.if-text-n.true
+use Rattle.report.proofs.report.Goals.{then-text-lt-LONGEST+else-text-needed, else-text-lt-LONGEST}
 
 pub returns : goal.returns
 returns c =
-    let x = c.args in
-    let p = c.put_text-2.ensures in
-    written x.file.now x.text.now _ _ p.puts p.short (omega (arith, c.needed-n.ensures.0, c.if-text-n.false))
+    let file = c.args.file.now in
+    let lent = c.args.text.now in
+    let p = c.put_text.ensures in
+    elim c.if-text-lt-LONGEST.branch [
+      | then-text-lt-LONGEST+else-text-needed w ↦
+          written file lent _ _ p.puts p.short (omega (arith, w.needed-needed.ensures.0, w.if-text-needed.false))
+      | else-text-lt-LONGEST w ↦ written_at_once file lent _ _ p.puts p.short w.if-text-lt-LONGEST.false
+    ]

@@ -1,0 +1,6 @@
+use mathlib.Core.List.{append_assoc}
+use Rattle.text.proofs.Laws.{puts_then}
+use Rattle.text.proofs.Text.put_line.Goals as goal
+
+pub returns-clause-puts : goal.returns-clause-puts
+returns-clause-puts c = rw append_assoc (puts_then c.put_bytes.ensures c.end_line.ensures.puts)

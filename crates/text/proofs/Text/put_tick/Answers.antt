@@ -1,0 +1,5 @@
+use Rattle.text.proofs.Laws.{puts_then}
+use Rattle.text.proofs.Text.put_tick.Goals as goal
+
+pub returns-clause-puts : goal.returns-clause-puts
+returns-clause-puts c = puts_then (puts_then c.put_number.ensures.puts c.put_byte.ensures) c.put_answer.ensures.puts
