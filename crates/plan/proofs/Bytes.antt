@@ -2,10 +2,10 @@
 -- Assumes nothing.
 use mathlib.Core.Path.{◌≡◌, refl, sym, ap, ◌∙◌}
 use mathlib.Core.List.{List, ◌++◌, append_assoc}
-use Prim.Native.Nat.{ℕ, ◌+◌, ◌≤◌}
+use Prim.Native.Nat.{ℕ, ◌+◌, ◌-◌, ◌≤◌, ◌<◌}
 use native.Mathlib.Omega.{arith}
 use borrow.Rule.Slice.PartMut.{put_mid}
-use lib.ListN.{length, take, drop}
+use lib.ListN.{length, get_or, take, drop}
 use lib.Seq.{sets, sets-eq, get_or-take, drop-drop}
 use Rattle.std.specs.Int.{w32, w64, from_le_bytes, to_le_bytes}
 use Rattle.plan.specs.Numbers.{number_at, bytes_of}
@@ -26,17 +26,20 @@ le_number b = omega arith
 pub number_take : (f : List ℕ) (n j : ℕ) → j + 4 ≤ n → number_at (take n f) j ≡ number_at f j
 unfolding number_at
 number_take f n j h =
-    rw (get_or-take n f j 0 (omega arith), get_or-take n f (j + 1) 0 (omega arith), get_or-take n f (j + 2) 0 (omega arith), get_or-take n f (j + 3) 0 (omega arith))
+    let byte : (k : ℕ) → k < n → get_or (take n f) k 0 ≡ get_or f k 0 = λ k b. get_or-take n f k 0 b in
+    rw (byte j (omega arith), byte (j + 1) (omega arith), byte (j + 2) (omega arith), byte (j + 3) (omega arith))
 
 pub number_part : (f : List ℕ) (k : ℕ) → from_le_bytes w32 (take 4 (drop k f)) ≡ number_at f k
 number_part f k =
     let z : k + 0 ≡ k = omega arith in
     le_number (take 4 (drop k f)) ∙ number_take (drop k f) 4 0 (omega arith) ∙ number_drop f k 0 ∙ ap (number_at f) z
 
--- bytes copied over a part of the same length
-pub put_part : (o : List ℕ) (at n : ℕ) (t : List ℕ) → n ≡ length t → at + length t ≤ length o → put_mid at n o t ≡ sets o at t
-put_part o at n t e h =
-    let d : drop n (drop at o) ≡ drop (at + length t) o = drop-drop n at o ∙ ap (λ (x : ℕ). drop (at + x) o) e in
-    ap (λ (l : List ℕ). take at o ++ (t ++ l)) d
+-- after `output[at..end].copy_from_slice(..)`: what was copied stands from place `at` on
+pub put_copied : (o : List ℕ) (at end : ℕ) (t u : List ℕ) → u ≡ t → at + length t ≡ end → end ≤ length o → put_mid at (end - at) o u ≡ sets o at t
+put_copied o at end t u e n h =
+    let k : end - at ≡ length t = omega arith in
+    ap (put_mid at (end - at) o) e
+    ∙ ap (λ (j : ℕ). take at o ++ (t ++ drop j (drop at o))) k
+    ∙ ap (λ (l : List ℕ). take at o ++ (t ++ l)) (drop-drop (length t) at o)
     ∙ sym (append_assoc (take at o) t (drop (at + length t) o))
-    ∙ sym (sets-eq t o at h)
+    ∙ sym (sets-eq t o at (omega arith))

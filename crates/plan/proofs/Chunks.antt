@@ -31,7 +31,7 @@ chunk_at n (suc k) xs (suc i) d h =
 byte_of : (s : List ℕ) (n k j : ℕ) → j < n → get_or (take n (drop k s)) j 0 ≡ get_or s (k + j) 0
 byte_of s n k j h = get_or-take n (drop k s) j 0 h ∙ get_or-drop k s j 0
 
-pub number_of_chunk : (s : List ℕ) (n k : ℕ) → 4 ≤ n → number_at (take n (drop k s)) 0 ≡ number_at s k
+number_of_chunk : (s : List ℕ) (n k : ℕ) → 4 ≤ n → number_at (take n (drop k s)) 0 ≡ number_at s k
 number_of_chunk s n k h =
     let z : k + 0 ≡ k = omega arith in
     number_take (drop k s) n 0 (omega arith) ∙ number_drop s k 0 ∙ ap (number_at s) z

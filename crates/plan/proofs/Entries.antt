@@ -1,4 +1,4 @@
--- The reader's checks by entry: what each way out of them means for the refusal, and what a file has that passes them.
+-- The reader's checks by entry: what a file has that passes them, and the body of a kind by its entry.
 -- Assumes nothing.
 use mathlib.Core.Path.{◌≡◌, refl, ap, ◌∙◌}
 use mathlib.Core.Bool.{Bool, true, false, cond}
@@ -11,37 +11,14 @@ use lib.Dec.{eqb}
 use lib.ListN.{length}
 use Rattle.least.specs.Search.{pick, first_where}
 use Rattle.least.proofs.Where.{where_none, where_some}
-use Rattle.refusals.specs.declared.Refusal.TheVariants.{Contents, BodyPlace, BodySize, RecordBytes}
 use Rattle.plan.specs.PlanFile.{Ask, WrongKind, WrongPlace, WrongSize, OfKind}
-use Rattle.plan.specs.Refuse.{refuse_at}
 use Rattle.plan.specs.PlanFile.{count, entry_at, section_at, sections_from, sections_of, body_of, script_kind, wrong_length, wrong_count}
 use Rattle.plan.specs.PlanFile.{start_at, first_wrong_record, asked, first_entry, entries_refusal, read_refusal, part_of}
-use Rattle.plan.specs.Inside.{bodies_refusal, Listed, Placed}
+use Rattle.plan.specs.Inside.{Listed, Placed}
 use Rattle.plan.proofs.Tests.{or_inv, if_inv, at_inv}
 
--- THE CHECKS, ONE AFTER THE OTHER
 module _ (f : List ℕ) where
-  pub stop_kind : (i : ℕ) → first_entry WrongKind f ≡ Some i → entries_refusal f ≡ Some (Contents (i + 1))
-  unfolding entries_refusal
-  stop_kind i e = rw e
-
-  pub stop_place : (i : ℕ) → first_entry WrongKind f ≡ None → first_entry WrongPlace f ≡ Some i → entries_refusal f ≡ Some (BodyPlace (i + 1))
-  unfolding entries_refusal
-  stop_place i e g = rw (e, g)
-
-  pub go_bodies : first_entry WrongKind f ≡ None → first_entry WrongPlace f ≡ None → entries_refusal f ≡ bodies_refusal f
-  unfolding entries_refusal bodies_refusal
-  go_bodies e g = rw (e, g)
-
-  pub stop_size : (i : ℕ) → first_entry WrongSize f ≡ Some i → bodies_refusal f ≡ Some (BodySize (i + 1))
-  unfolding bodies_refusal
-  stop_size i e = rw e
-
-  pub go_records : first_entry WrongSize f ≡ None
-      → bodies_refusal f ≡ refuse_at (λ r. RecordBytes r) (first_wrong_record (body_of script_kind (sections_of f))) None
-  unfolding bodies_refusal
-  go_records e = rw e
-
+  -- an accepted file hands back its body
   pub the_part : (k : ℕ) → read_refusal f ≡ None → part_of k f ≡ body_of k (sections_of f)
   unfolding part_of
   the_part k e = rw e

@@ -37,7 +37,8 @@ module _ {F : Type 0} {g : Mut F (Bor ℕ × Unit {0}) Bool} (test : ℕ → Boo
       go (Some i) h = sym (where_finds test n 0 i (omega arith) (omega (arith, h.1)) h.2 (λ v a b. h.3 v (omega arith) b))
 
 -- `position` over a list, where its closure computes p, and p of an element is the test at its place
-module _ {X F : Type 0} {g : Mut F (Bor X × Unit {0}) Bool} (p : X → Bool) (test : ℕ → Bool) (xs : List X) (d : X) (s u : Iter X) (f : F) (r : Option ℕ) (n : ℕ) where
+module _ {X F : Type 0} {g : Mut F (Bor X × Unit {0}) Bool} (p : X → Bool) (test : ℕ → Bool) (xs : List X) (d : X) (n : ℕ)
+    (s u : Iter X) (f : F) (r : Option ℕ) where
   pub first_of_position : iter_rest s ≡ xs → length xs ≡ n → ((k : ℕ) → k < n → p (get_or xs k d) ≡ test k)
       → (ys : List (Bor X)) × (o : Option (Bor X)) × (j : F) × YieldsThen fronts s ys o u × FoldsTo (λ q x t. Called g q (x, tt) false t) f ys j
       × MatchOption o (r ≡ None) (λ x. (r ≡ Some (length ys)) × ((h : F) × Called g j (x, tt) true h))

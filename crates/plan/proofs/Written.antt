@@ -1,4 +1,4 @@
--- The file of a table and a script, piece by piece, and each way out of the writer's checks.
+-- The file of a table and a script, piece by piece, and what the writer's checks come to.
 -- Assumes nothing.
 use mathlib.Core.Path.{◌≡◌, refl, sym, ap, ◌∙◌}
 use mathlib.Core.Bool.{Bool, true, false, cond}
@@ -100,7 +100,7 @@ plan_length t s =
     ∙ length-append (head ++ table_bytes t) s
     ∙ omega (arith, length-append head (table_bytes t), head_length (length t) (length s), table_length t)
 
--- THE CHECKS, ONE AFTER THE OTHER
+-- THE CHECKS OF THE TOTAL AND OF THE ROOM
 module _ (t s : List ℕ) (room : ℕ) where
   -- the total, as the code counts it
   module _ (need : ℕ) (counted : need ≡ file_length (length t) (length s)) where

@@ -1,7 +1,6 @@
 // Bodies as values: the rows' numbers and a script's records.
-ghost use Rattle.std.specs.Prelude.{◌≡◌, ◌++◌, ◌≤◌, length, drop};
+ghost use Rattle.std.specs.Prelude.{◌≡◌};
 ghost use Rattle.std.specs.Iterator.{YieldsFirst, item_count};
-ghost use Rattle.plan.specs.Numbers.{number_at, numbers_in};
 ghost use Rattle.plan.specs.PlanFile.{first_wrong_record};
 ghost use Rattle.plan.specs.Bodies.{tick_at, record_of, records_of, Takes};
 
@@ -71,7 +70,7 @@ pub(crate) fn first_wrong_record(script: &[u8]) -> Option<usize>
     ensures { result ≡ first_wrong_record script.now }
 {
     let (records, _) = script.as_chunks::<8>();
-    records.iter().position(|[.., early, spare, last]| 1 < *early || *spare != 0 || *last != 0)
+    records.iter().position(|&[.., early, spare, last]| 1 < early || spare != 0 || last != 0)
 }
 
 // The rows' bytes as numbers, at the front of the lent table. Nothing is touched where they aren't in fours or don't fit.

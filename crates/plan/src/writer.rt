@@ -1,5 +1,5 @@
 // The writer: the checks in its order, then the contents and the bodies from front to end.
-ghost use Rattle.std.specs.Prelude.{◌≡◌, ◌+◌, ◌*◌, ◌<◌, ◌≤◌, ◌++◌, length};
+ghost use Rattle.std.specs.Prelude.{◌≡◌, ◌+◌, ◌*◌, ◌<◌, ◌≤◌, length};
 ghost use Rattle.std.proofs.lemmas.List.Edits.{sets};
 ghost use Rattle.plan.specs.Numbers.{bytes_of, table_bytes};
 ghost use Rattle.plan.specs.Refuse.{answer_of};
@@ -68,6 +68,7 @@ struct Output<'a> {
 }
 
 impl Output<'_> {
+    // Bytes, from the place on; the place is then the one after them.
     fn put(&mut self, bytes: &[u8])
         requires { HasRoom self.old (length bytes.now) }
         ensures { Puts self.old bytes.now self.new }
@@ -77,6 +78,7 @@ impl Output<'_> {
         self.at = end;
     }
 
+    // The four bytes of a number.
     fn put_number(&mut self, x: u32)
         requires { HasRoom self.old 4 }
         ensures { Puts self.old (bytes_of x) self.new }
@@ -95,6 +97,7 @@ impl Output<'_> {
         self.put_number(size as u32);
     }
 
+    // The bytes of a table.
     fn put_table(&mut self, table: &[u32])
         requires { HasRoom self.old (4 * length table.now) }
         ensures { Puts self.old (table_bytes table.now) self.new }

@@ -16,7 +16,7 @@ unfolding first_wrong_record wrong_record
 returns c =
     let s = c.args.script.now in
     let n = length s / 8 in
-    first_of_position (λ (x : List ℕ). wrong_record x 0) (wrong_record s) (first_chunks 8 n s) [] _ _ _ _ n (cc) (length_chunks 8 n s)
+    first_of_position (λ (x : List ℕ). wrong_record x 0) (wrong_record s) (first_chunks 8 n s) [] n _ _ _ _ (cc) (length_chunks 8 n s)
     (λ k h. ap (λ (x : List ℕ). wrong_record x 0) (chunk_at 8 n s k [] h) ∙ wrong_of_chunk s k)
     c.position.ensures.ran
     (λ x b q k. search (rules, tests))

@@ -4,9 +4,10 @@ use Prim.Native.Nat.{◌<◌}
 use native.Mathlib.Omega.{arith}
 use Rattle.std.proofs.Common.{rules}
 use borrow.Author.Tests.{tests}
-use Rattle.plan.specs.PlanFile.{count, asked, first_entry, WrongKind, WrongPlace, wrong_kind}
+use Rattle.plan.specs.PlanFile.{count, asked, first_entry, entries_refusal, WrongKind, WrongPlace, wrong_kind}
+use Rattle.plan.specs.Inside.{bodies_refusal}
 use Rattle.plan.proofs.Finds.{first_of_find}
-use Rattle.plan.proofs.Entries.{entry_in, stop_kind, stop_place, go_bodies, placed}
+use Rattle.plan.proofs.Entries.{entry_in, placed}
 use Rattle.plan.proofs.reader.Contents.placed.Goals.{After-find, After-find-2, In-Some, In-Some-find}
 use Rattle.plan.proofs.reader.Contents.placed.Goals as goal
 
@@ -30,20 +31,23 @@ pub overflow_add-result : goal.overflow_add-result
 overflow_add-result c = omega (arith, kind_within c, c.count-n.ensures.listed)
 
 pub returns-in-Some : goal.returns-in-Some
-returns-in-Some c = stop_kind _ _ (kind_found (goal.at.returns-in-Some c).After-find ∙ c.in-Some.is)
+unfolding entries_refusal
+returns-in-Some c = rw (kind_found (goal.at.returns-in-Some c).After-find ∙ c.in-Some.is)
 
 pub overflow_add-result-in-Some-find : goal.overflow_add-result-in-Some-find
 overflow_add-result-in-Some-find c = omega (arith, place_within c, c.count-n.ensures.listed)
 
 pub returns-in-Some-find : goal.returns-in-Some-find
+unfolding entries_refusal
 returns-in-Some-find c =
     let t = goal.at.returns-in-Some-find c in
-    stop_place _ _ (kind_found t.After-find ∙ c.in_default.is) (place_found t.After-find-2 ∙ c.in-Some-find.is)
+    rw (kind_found t.After-find ∙ c.in_default.is, place_found t.After-find-2 ∙ c.in-Some-find.is)
 
 pub invariant_of-result : goal.invariant_of-result
 invariant_of-result c = placed _ c.count-n.ensures.listed (place_found (goal.at.invariant_of-result c).After-find-2 ∙ c.in_default-find.is)
 
 pub returns : goal.returns
+unfolding entries_refusal bodies_refusal
 returns c =
     let t = goal.at.returns c in
-    (refl, go_bodies _ (kind_found t.After-find ∙ c.in_default.is) (place_found t.After-find-2 ∙ c.in_default-find.is))
+    (refl, rw (kind_found t.After-find ∙ c.in_default.is, place_found t.After-find-2 ∙ c.in_default-find.is))
