@@ -29,12 +29,14 @@ module _ {F : Type 0} (g : Mut F (ℕ × Unit {0}) ℕ) (same : (p q : F) (x y :
   pub widened : (f : F) (xs ys : List ℕ) → IsMapOf g f xs ys (length xs) → ys ≡ xs
   widened f xs ys m = same_lists ys xs m.long (λ k d h. let w = m.at k d d (omega (arith, m.long)) in same _ _ _ _ w.2)
 
-module _ (s x : List ℕ) (rows results : List (List ℕ)) (first : rows ≡ first_chunks 4 (length s / 4) s) (second : results ≡ first_chunks 3 (length x / 3) x) where
+module _ (s x : List ℕ) (rows results : List (List ℕ)) (first : rows ≡ first_chunks 4 (length s / 4) s)
+    (second : results ≡ first_chunks 3 (length x / 3) x) where
   abbrev items : List (ℕ × (List ℕ × List ℕ))
   items = enumerate_from 0 (zip rows results)
 
   -- the item of a turn after k others: the row's line is line k
-  module _ (k i : ℕ) (row result : List ℕ) (h : k < length items) (e : ◌≡◌ {A = ℕ × (List ℕ × List ℕ)} (i, (row, result)) (get_or items k (i, (row, result)))) where
+  module _ (k i : ℕ) (row result : List ℕ) (h : k < length items)
+      (e : ◌≡◌ {A = ℕ × (List ℕ × List ℕ)} (i, (row, result)) (get_or items k (i, (row, result)))) where
     rows_long : length rows ≡ length s / 4
     rows_long = ap length first ∙ length_chunks 4 (length s / 4) s
 

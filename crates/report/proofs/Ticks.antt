@@ -1,4 +1,4 @@
--- A script's ticks one after the other: the run so far, and the lines that are left. Assumes nothing.
+-- A script's ticks one after the other: the run so far, and its lines. Assumes nothing.
 use mathlib.Core.Path.{◌≡◌, sym, ap, ◌∙◌}
 use mathlib.Core.List.{List, [], ◌++◌, append-nil, append_assoc}
 use Prim.Native.Nat.{ℕ, zero, suc, ◌+◌, ◌≤◌}

@@ -9,9 +9,6 @@ put_accepted-requires c =
     let st = c.start-started in
     (rw (sym (started_answer _ _ st.ensures) ∙ c.in-Ok.is), ap (λ (x : Started). x.machine) st.ensures, c.requires)
 
-pub returns-in-Ok-clause-puts : goal.returns-in-Ok-clause-puts
-returns-in-Ok-clause-puts c = c.put_accepted.ensures.puts
-
 pub returns-in-Err-clause-puts : goal.returns-in-Err-clause-puts
 unfolding table_text
 returns-in-Err-clause-puts c = rw (sym (started_answer _ _ c.start-started.ensures) ∙ c.in-Err.is) c.put_refusal.ensures.puts
