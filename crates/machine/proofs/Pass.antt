@@ -58,13 +58,13 @@ seen_row clock mask l r =
     )
 
 -- what an answer says
-pub answered : (b : Bool) → Ok tt ≡ answer_if b → b ≡ true
-answered true h = refl
-answered false h = cc
+pub answered : {T : Type 0} (b : Bool) (x y : T) → Ok y ≡ answer_if b x → (b ≡ true) × (y ≡ x)
+answered true x y h = (refl, cc)
+answered false x y h = cc
 
-pub not_answered : (b : Bool) (x : Refusal) → Err x ≡ answer_if b → (b ≡ false) × (x ≡ Refusal.NotWellFormed 0)
-not_answered true x h = cc
-not_answered false x h = (refl, cc)
+pub not_answered : {T : Type 0} (b : Bool) (x : T) (y : Refusal) → Err y ≡ answer_if b x → (b ≡ false) × (y ≡ Refusal.NotWellFormed 0)
+not_answered true x y h = cc
+not_answered false x y h = (refl, cc)
 
 -- every row fits, and one at most has begun
 abbrev rows_fit : ℕ → List Row → Bool

@@ -74,16 +74,6 @@ not_well m h =
     go true false t r e = refl
     go false b t r e = refl
 
--- what the pass answers
-pub passed_err : (b : Bool) (v : Seen) (x : Refusal) → Err x ≡ cond b (Ok v) (Err (Refusal.NotWellFormed 0))
-    → (b ≡ false) × (x ≡ Refusal.NotWellFormed 0)
-passed_err true v x h = cc
-passed_err false v x h = (refl, cc)
-
-pub passed_ok : (b : Bool) (v w : Seen) → Ok w ≡ cond b (Ok v) (Err (Refusal.NotWellFormed 0)) → (b ≡ true) × (w ≡ v)
-passed_ok true v w h = (refl, cc)
-passed_ok false v w h = cc
-
 module _ (m : Machine) (mask : ℕ) (long : length m.rows ≡ 32) (fit : places_fit m.clock m.count m.rows ≡ true) where
   abbrev pub table : List Row
   table = take m.count m.rows

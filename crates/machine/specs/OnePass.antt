@@ -37,8 +37,8 @@ places_fit clock count rows =
     leb count 32 && (every (row_fits clock) (take count rows) && (one_begun rows && every is_blank (drop count rows)))
 
 -- 8, unless all is well
-abbrev pub answer_if : Bool → Result (Unit {0}) Refusal
-answer_if fits = cond fits (Ok tt) (Err (Refusal.NotWellFormed 0))
+abbrev pub answer_if : {T : Type 0} → Bool → T → Result T Refusal
+answer_if fits x = cond fits (Ok x) (Err (Refusal.NotWellFormed 0))
 
 -- one row after steps 1 and 2, by whether its task is in the mask
 abbrev pub turned_by : ℕ → Bool → Row → Row

@@ -103,7 +103,7 @@ fn age_of(clock: u64, arrival: u64) -> u64
 }
 
 fn named(mask: u32, i: usize) -> bool
-    requires { i < 32 }
+    requires { i < PLACES }
     ensures { result ≡ in_mask mask i }
 {
     (mask >> i) % 2 == 1
@@ -112,7 +112,7 @@ fn named(mask: u32, i: usize) -> bool
 fn within(x: u32) -> bool
     ensures { result ≡ in_limits x }
 {
-    1 <= x && x <= LARGEST_FIELD
+    (1..=LARGEST_FIELD).contains(&x)
 }
 
 impl Stage {
@@ -128,7 +128,7 @@ impl Stage {
     {
         match self {
             Stage::Never => false,
-            Stage::Guest(a, _) | Stage::Hyper(a, _) | Stage::Closed(a) => age_of(clock, a) < u64::from(t),
+            Stage::Guest(arrival, _) | Stage::Hyper(arrival, _) | Stage::Closed(arrival) => age_of(clock, arrival) < u64::from(t),
         }
     }
 }
@@ -153,12 +153,23 @@ impl Row {
     {
         match self.stage {
             Stage::Never => true,
-            Stage::Guest(a, used) => a <= clock && used <= u64::from(self.c) && age_of(clock, a) <= u64::from(self.e),
-            Stage::Hyper(a, left) => {
-                a <= clock && 1 <= left && left <= u64::from(self.k) && u64::from(self.e) < age_of(clock, a)
+            Stage::Guest(arrival, used) => {
+                arrival <= clock && used <= u64::from(self.c) && age_of(clock, arrival) <= u64::from(self.e)
             }
-            Stage::Closed(a) => a <= clock,
+            Stage::Hyper(arrival, left) => {
+                arrival <= clock
+                    && 1 <= left
+                    && left <= u64::from(self.k)
+                    && u64::from(self.e) < age_of(clock, arrival)
+            }
+            Stage::Closed(arrival) => arrival <= clock,
         }
+    }
+
+    fn fits(self, clock: u64) -> bool
+        ensures { result ≡ row_fits clock self }
+    {
+        self.fields_fit() && self.stage_fits(clock)
     }
 
     fn has_begun(self) -> bool
@@ -192,10 +203,10 @@ impl Row {
     {
         if arrives {
             self.stage = Stage::Guest(clock, 0);
-        } else if let Stage::Guest(a, _) = self.stage {
-            if age_of(clock, a) == u64::from(self.e) {
-                self.stage = Stage::Hyper(a, u64::from(self.k));
-            }
+        } else if let Stage::Guest(arrival, _) = self.stage
+            && age_of(clock, arrival) == u64::from(self.e)
+        {
+            self.stage = Stage::Hyper(arrival, u64::from(self.k));
         }
     }
 
@@ -205,23 +216,25 @@ impl Row {
         ensures { result ≡ ran_from task signal early self.c self.stage }
     {
         match self.stage {
-            Stage::Guest(a, used) => run_guest(task, signal, self.c, a, used + 1),
-            Stage::Hyper(a, left) => run_hypertask(task, signal, early, a, left.saturating_sub(1)),
+            Stage::Guest(arrival, used) => run_guest(task, signal, self.c, arrival, used + 1),
+            Stage::Hyper(arrival, left) => run_hypertask(task, signal, early, arrival, left.saturating_sub(1)),
             stage => Outcome {
                 stage,
-                taken: nobody(signal),
+                taken: Taken::nobody(signal),
             },
         }
     }
 }
 
-fn nobody(signal: u8) -> Taken
-    ensures { result ≡ nobody_ran signal }
-{
-    Taken {
-        ran: Ran::Nobody,
-        mark: Mark::Nothing,
-        ignored: signal != 0,
+impl Taken {
+    fn nobody(signal: u8) -> Taken
+        ensures { result ≡ nobody_ran signal }
+    {
+        Taken {
+            ran: Ran::Nobody,
+            mark: Mark::Nothing,
+            ignored: signal != 0,
+        }
     }
 }
 
@@ -270,7 +283,7 @@ impl Seen {
     // What the rows of the table show, which are turned on the way; 8 where some place isn't well formed by itself. It is one
     // pass: one that checks and one that turns took 1.15 of the time.
     fn over(rows: &mut [Row; PLACES], count: usize, clock: u64, mask: u32) -> Result<Seen, Refusal>
-        ensures answer { result ≡ cond (places_fit clock count rows.old) (Ok (seen_in clock mask (take count rows.old))) (Err (Refusal.NotWellFormed 0)) }
+        ensures answer { result ≡ answer_if (places_fit clock count rows.old) (seen_in clock mask (take count rows.old)) }
         ensures turned { OnOk result (rows.new ≡ turned clock mask (take count rows.old) ++ drop count rows.old) }
     {
         if PLACES < count {
@@ -291,14 +304,11 @@ impl Seen {
     // One row further, which is turned on the way. 8 refuses one that isn't well formed, and a second hypertask that has begun.
     #[tactic(auto, unfolding(crate::specs::OnePass::row_seen))]
     fn see(&mut self, i: usize, row: &mut Row, clock: u64, arrives: bool) -> Result<(), Refusal>
-        ensures answer { result ≡ answer_if (row_fits clock row.old && not (second_begun row.old self.old)) }
+        ensures answer { result ≡ answer_if (row_fits clock row.old && not (second_begun row.old self.old)) tt }
         ensures turned { OnOk result (row.new ≡ turned_by clock arrives row.old) }
         ensures seen { OnOk result (self.new ≡ row_seen clock arrives i row.old self.old) }
     {
-        if !(row.fields_fit() && row.stage_fits(clock)) {
-            return Err(Refusal::NotWellFormed(0));
-        }
-        if row.has_begun() && self.begun.replace(i).is_some() {
+        if !row.fits(clock) || row.has_begun() && self.begun.replace(i).is_some() {
             return Err(Refusal::NotWellFormed(0));
         }
         if arrives {
@@ -370,13 +380,13 @@ impl Machine {
     {
         let seen = Seen::over(&mut self.rows, self.count, self.clock, mask)?;
         let place = self.judge(mask, seen)?;
-        Ok(self.run(place, signal, early))
+        Ok(self.advance(place, signal, early))
     }
 
     // Steps 4 and 5, for the place that was chosen.
-    fn run(&mut self, place: Option<usize>, signal: u8, early: bool) -> Taken
+    fn advance(&mut self, place: Option<usize>, signal: u8, early: bool) -> Taken
         requires room { self.old.clock < 2 ^ 40 }
-        requires runs { IfSome place (λ i. (i < 32) × MayRun (get_or self.old.rows i no_row)) }
+        requires runs { IfSome place (λ i. (i < PLACES) × MayRun (get_or self.old.rows i no_row)) }
         ensures { ran_on self.old.count self.old.clock self.old.rows signal early (found place) ≡ record { machine = self.new; answer = Ok result } }
     {
         self.clock += 1;
@@ -386,13 +396,13 @@ impl Machine {
                 self.rows[i].stage = outcome.stage;
                 outcome.taken
             }
-            None => nobody(signal),
+            None => Taken::nobody(signal),
         }
     }
 
     // The place of the lowest task in the mask past the last row.
     fn lowest_past(&self, mask: u32) -> Option<usize>
-        requires { self.now.count ≤ 32 }
+        requires { self.now.count ≤ PLACES }
         ensures { result ≡ place (first (past_last mask self.now.count) self.now.rows) }
     {
         if u64::from(mask) >> self.count == 0 {
@@ -404,9 +414,9 @@ impl Machine {
     // Refusals 8 to 12, in their order, where every place is well formed by itself; else the place of the task that runs.
     #[tactic(auto, unfolding(crate::specs::OnePass::judged_by))]
     fn judge(&self, mask: u32, seen: Seen) -> Result<Option<usize>, Refusal>
-        requires few { self.now.count ≤ 32 }
-        requires soon { IfSome seen.soon (λ i. i < 32) }
-        requires hyper { IfSome seen.hyper (λ i. i < 32) }
+        requires few { self.now.count ≤ PLACES }
+        requires soon { IfSome seen.soon (λ i. i < PLACES) }
+        requires hyper { IfSome seen.hyper (λ i. i < PLACES) }
         ensures { result ≡ judged_by self.now mask seen }
     {
         if self.count < 1 || LAST_CLOCK < self.clock {

@@ -1,4 +1,5 @@
-use Rattle.machine.proofs.Turns.{not_well, passed_err, passed_ok, few, soon_below, hyper_below, judged_refused, room, may_run, taken_law, refused_law}
+use Rattle.machine.proofs.Turns.{not_well, few, soon_below, hyper_below, judged_refused, room, may_run, taken_law, refused_law}
+use Rattle.machine.proofs.Pass.{answered, not_answered}
 use Rattle.machine.proofs.Verdicts.{verdict_unfit}
 use Rattle.machine.specs.OnePass.{places_fit, seen_in}
 use Rattle.std.proofs.lemmas.Result.{err_from_is_err_and}
@@ -13,7 +14,7 @@ use Rattle.machine.proofs.Machine.tick.Goals.{In_ok-seen}
 -- the pass answered with what it saw
 sees : (c : In_ok-seen) → (places_fit c.args.self.now.clock c.args.self.now.count c.args.self.now.rows ≡ true)
     × (c.in_ok-seen.seen ≡ seen_in c.args.self.now.clock c.args.mask (take c.args.self.now.count c.args.self.now.rows))
-sees c = passed_ok _ _ _ c.in_ok-seen.ensures.answer
+sees c = answered _ _ _ c.in_ok-seen.ensures.answer
 
 long : (c : In_ok-seen) → length c.args.self.now.rows ≡ 32
 long c = search rules
@@ -21,7 +22,7 @@ long c = search rules
 pub returns-in_err-seen : goal.returns-in_err-seen
 returns-in_err-seen c =
     let m = c.args.self.now in
-    let q = passed_err _ _ _ c.in_err-seen.ensures.answer in
+    let q = not_answered _ _ _ c.in_err-seen.ensures.answer in
     let p = err_from_is_err_and c.from_residual.result c.from_residual.ensures.1 in
     rw (p.1, p.2, q.1) (refused_law m c.args.mask c.args.signal c.args.early _ (verdict_unfit m c.args.mask (not_well m q.0)))
 
@@ -44,14 +45,14 @@ returns-in_err-place c =
     let h = rw (c.in_ok-seen.ensures.turned, (sees t).1) at c.in_err-place.ensures in
     rw (p.1, p.2) (refused_law m c.args.mask c.args.signal c.args.early _ (judged_refused m c.args.mask (long t) (sees t).0 _ h))
 
-pub run-requires-clause-room : goal.run-requires-clause-room
-run-requires-clause-room c = let t = (goal.at.run-requires-clause-room c).In_ok-seen in
+pub advance-requires-clause-room : goal.advance-requires-clause-room
+advance-requires-clause-room c = let t = (goal.at.advance-requires-clause-room c).In_ok-seen in
     let h = rw (c.in_ok-seen.ensures.turned, (sees t).1) at c.in_ok-place.ensures in
     room c.args.self.now c.args.mask (long t) (sees t).0 c.in_ok-place.place h
 
-pub run-requires-clause-runs : goal.run-requires-clause-runs
-run-requires-clause-runs c =
-    let t = (goal.at.run-requires-clause-runs c).In_ok-seen in
+pub advance-requires-clause-runs : goal.advance-requires-clause-runs
+advance-requires-clause-runs c =
+    let t = (goal.at.advance-requires-clause-runs c).In_ok-seen in
     let h = rw (c.in_ok-seen.ensures.turned, (sees t).1) at c.in_ok-place.ensures in
     rw c.in_ok-seen.ensures.turned (may_run c.args.self.now c.args.mask (long t) (sees t).0 c.in_ok-place.place h)
 
@@ -60,4 +61,4 @@ returns c =
     let t = (goal.at.returns c).In_ok-seen in
     let h = rw (c.in_ok-seen.ensures.turned, (sees t).1) at c.in_ok-place.ensures in
     sym (taken_law c.args.self.now c.args.mask (long t) (sees t).0 c.in_ok-place.place h c.args.signal c.args.early)
-    ∙ rw c.in_ok-seen.ensures.turned at c.run.ensures
+    ∙ rw c.in_ok-seen.ensures.turned at c.advance.ensures

@@ -29,7 +29,7 @@ returns-in_err-see-clause-answer c =
     let all = c.split_at_mut-table.result.0.now in
     let lt : c.loop-i.i < length all = omega arith in
     let same = reads c.args.clock c.args.mask all c.loop-i.i c.loop-i.seen c.loop-i.table lt c.loop-i.invariant in
-    let q = not_answered _ _ (rw same at c.in_err-see.ensures.answer) in
+    let q = not_answered _ _ _ (rw same at c.in_err-see.ensures.answer) in
     let p = err_from_is_err_and c.from_residual.result c.from_residual.ensures.1 in
     let ends = pass_ends c.args.clock c.args.mask all c.loop-i.i c.loop-i.seen c.loop-i.table lt c.loop-i.invariant q.0 in
     let unfit = table_unfit c.args.clock c.args.count c.args.rows.now (rw c.split_at_mut-table.ensures.front at ends) in
@@ -40,9 +40,9 @@ loop-i-preserved c =
     let all = c.split_at_mut-table.result.0.now in
     let lt : c.loop-i.i < length all = omega arith in
     let same = reads c.args.clock c.args.mask all c.loop-i.i c.loop-i.seen c.loop-i.table lt c.loop-i.invariant in
-    let q = answered _ (rw same at c.in_ok-see.ensures.answer) in
+    let q = answered _ _ _ (rw same at c.in_ok-see.ensures.answer) in
     rw (c.in_ok-see.ensures.turned, c.in_ok-see.ensures.seen, c.named.ensures, same)
-    (pass_on c.args.clock c.args.mask all c.loop-i.i c.loop-i.seen c.loop-i.table lt c.loop-i.invariant q)
+    (pass_on c.args.clock c.args.mask all c.loop-i.i c.loop-i.seen c.loop-i.table lt c.loop-i.invariant q.0)
 
 pub returns-then-all-clause-answer : goal.returns-then-all-clause-answer
 returns-then-all-clause-answer c =
