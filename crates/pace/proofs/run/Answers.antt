@@ -15,8 +15,8 @@ loop-preserved c =
     let a = c.args in
     let s = c.step-s in
     let x = c.said_sum-total in (
-      machine_more a.m a.mask a.signal a.early l.counter l.m s.result l.invariant.0 s.ensures,
-      sum_more a.m a.mask a.signal a.early l.counter l.m s.result l.total x.result l.invariant.0 s.ensures l.invariant.1 x.ensures.value,
+      machine_more a.m a.mask a.signal a.early l.counter l.s.machine s.result l.invariant.0 s.ensures,
+      sum_more a.m a.mask a.signal a.early l.counter l.s.machine s.result l.total x.result l.invariant.0 s.ensures l.invariant.1 x.ensures.value,
       omega arith,
     )
 
