@@ -9,6 +9,7 @@ ghost use Rattle.start.specs.Inside.{Analysed, fresh_places};
 
 use machine::{Machine, Row, Stage};
 use refusals::Refusal;
+use std::array;
 
 // The machine, and the number of its tasks or the refusal.
 #[derive(Clone, Copy)]
@@ -42,20 +43,20 @@ fn row_of(table: &[u32], results: &[u32], j: usize) -> Row
         c: table[4 * j + 2],
         k: table[4 * j + 3],
         e: results[3 * j + 1],
-        stage: Stage::Never,
+        ..no_row()
     }
 }
 
-// Its rows, and the places past them.
+// Its first n rows, and the places past them.
 fn rows_of(table: &[u32], results: &[u32], n: usize) -> [Row; 32]
-    requires { (Analysed table.now results.now) × (n ≤ rows table.now) }
+    requires { 0 < n → Analysed table.now results.now × (n ≤ rows table.now) }
     ensures { result ≡ fresh_places table.now n }
 {
-    let mut places = [no_row(); 32];
-    for j in 0..n {
-        places[j] = row_of(table, results, j);
-    }
-    places
+    array::from_fn(|j| if j < n {
+        row_of(table, results, j)
+    } else {
+        no_row()
+    })
 }
 
 // A machine at clock 0 with every task Never, or the machine with no rows and the refusal.
@@ -63,22 +64,14 @@ pub fn start(table: &[u32]) -> Started
     ensures { result ≡ start_of table.now }
 {
     let mut results = [0u32; 96];
-    match analysis::analyse(table, &mut results) {
-        Err(r) => Started {
-            machine: Machine {
-                rows: [no_row(); 32],
-                count: 0,
-                clock: 0,
-            },
-            answer: Err(r),
+    let answer = analysis::analyse(table, &mut results);
+    let count = answer.unwrap_or(0);
+    Started {
+        machine: Machine {
+            rows: rows_of(table, &results, count),
+            count,
+            clock: 0,
         },
-        Ok(n) => Started {
-            machine: Machine {
-                rows: rows_of(table, &results, n),
-                count: n,
-                clock: 0,
-            },
-            answer: Ok(n),
-        },
+        answer,
     }
 }

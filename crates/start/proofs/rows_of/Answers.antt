@@ -1,30 +1,16 @@
-use lib.ListN.{replicate}
-use mathlib.Core.List.{List}
-use mathlib.Core.Path.{◌≡◌, ap, ◌∙◌}
+use mathlib.Core.Path.{◌≡◌}
+use mathlib.Core.Logic.{⊎_elim}
+use Prim.Native.Nat.{◌≤◌, ◌<◌}
+use native.Mathlib.Nat.{eq-zero-or-pos}
 use native.Mathlib.Omega.{arith}
-use lib.ListN.{set}
-use Rattle.machine.specs.declared.Row.{Row}
-use Rattle.start.specs.Inside.{fresh_places}
-use Rattle.start.proofs.Places.{places_none, places_more}
+use borrow.Author.Rules.{rules}
+use borrow.Author.Tests.{tests}
+use Rattle.start.proofs.Places.{places_are}
 use Rattle.start.proofs.rows_of.Goals as goal
-
-pub no_row-places-requires : goal.no_row-places-requires
-no_row-places-requires c = tt
-
-pub loop-j-init : goal.loop-j-init
-loop-j-init c = (omega arith, ap (λ (r : Row). replicate 32 r) c.no_row-places.ensures ∙ places_none _)
-
-pub loop-j-preserved : goal.loop-j-preserved
-loop-j-preserved c =
-    let s = c.args.table.now in
-    let l = c.loop-j in (
-      omega arith,
-      ap (λ (x : List Row). set x l.j c.row_of.result) l.invariant.1
-          ∙ ap (λ (r : Row). set (fresh_places s l.j) l.j r) c.row_of.ensures
-          ∙ places_more s l.j (omega (arith, c.requires.0.sound.few)),
-    )
 
 pub returns : goal.returns
 returns c =
-    let e : c.loop-j.j ≡ c.args.n = omega arith in
-    c.loop-j.invariant.1 ∙ ap (fresh_places c.args.table.now) e
+    let n = c.args.n in
+    let few : n ≤ 32 =
+    ⊎_elim (λ (z : n ≡ 0). omega arith) (λ (p : 0 < n). let r = c.requires p in omega (arith, r.0.sound.few, r.1)) (eq-zero-or-pos n) in
+    places_are _ _ c.args.table.now n (λ x y q k. search (rules, tests)) few _ c.from_fn.ensures.items
