@@ -1,21 +1,25 @@
--- What the text needs to know of a plan: its rows fit 128 numbers, and no part is longer than the longest file. Assumes nothing.
-use mathlib.Core.Path.{◌≡◌, sym, ap, ◌∙◌}
+-- What the text needs to know of a plan: its rows fit 128 numbers, no part is longer than the longest file, and its records come one after the other.
+-- Assumes nothing.
+use mathlib.Core.Path.{◌≡◌, refl, sym, ap, ◌∙◌}
 use mathlib.Core.Bool.{Bool, true, false, cond}
-use mathlib.Core.List.{List}
+use mathlib.Core.List.{List, [], ◌∷◌}
 use Rattle.std.specs.Prelude.{None, Some, Ok}
-use Prim.Native.Nat.{ℕ, zero, suc, ◌/◌, ◌%◌, ◌≤◌, ◌<◌}
+use Prim.Native.Nat.{ℕ, zero, suc, ◌+◌, ◌*◌, ◌/◌, ◌%◌, ◌≤◌, ◌<◌}
 use native.Mathlib.Omega.{arith}
 use lib.Dec.{eqb, ltb}
 use lib.ListN.{length, take, drop, replicate, length-take, length-drop}
-use lib.Seq.{take_at}
-use borrow.Author.Tests.{eq-eqb, lt-ltb, le-ltb, ltb-false}
+use lib.Seq.{take_at, drop-drop, get_or-drop}
+use borrow.Author.Tests.{eq-eqb, le-ltb, ltb-false}
 use Rattle.plan.specs.Numbers.{table_of, AllBelow}
-use Rattle.plan.specs.Bodies.{tick_at, record_of, taken_of, after_taken, Takes}
+use Rattle.plan.specs.declared.Tick.{Tick}
+use Rattle.plan.specs.Bodies.{tick_at, records_of, taken_of, after_taken, Takes}
 use Rattle.plan.specs.PlanFile.{section_at, sections_from, sections_of, body_of, read_refusal, part_of, rows_kind, entry_at, count}
 use Rattle.plan.specs.Answers.{Taken}
 use Rattle.plan.proofs.Tests.{or_inv}
 use Rattle.plan.proofs.Entries.{the_part, passed}
 use Rattle.plan.proofs.Values.{numbers_length}
+use Rattle.plan.proofs.Digits.{number_drop}
+use Rattle.plan.proofs.Records.{length_records, records_more}
 use Rattle.plan.proofs.Parts.{rows_shape}
 use Rattle.plan.proofs.Plans.{meaning_plan}
 
@@ -67,6 +71,29 @@ module _ (f : List ℕ) (accepted : read_refusal f ≡ None) where
 
 -- ## Records
 
-pub record_is : (s : List ℕ) (i : ℕ) → i < length s / 8 → record_of s i ≡ Some (tick_at s i)
-unfolding record_of
-record_is s i h = rw (lt-ltb i (length s / 8) h)
+module _ (s : List ℕ) (i : ℕ) where
+  tick_later : tick_at (drop (8 * i) s) 0 ≡ tick_at s i
+  tick_later =
+      let e : 8 * i + 0 ≡ 8 * i = omega arith in
+      rw (number_drop s (8 * i) 0, get_or-drop (8 * i) s 4 0, get_or-drop (8 * i) s 5 0, e) refl
+
+  more_later : drop 8 (drop (8 * i) s) ≡ drop (8 * (i + 1)) s
+  more_later =
+      let e : 8 * i + 8 ≡ 8 * (i + 1) = omega arith in
+      drop-drop 8 (8 * i) s ∙ ap (λ (k : ℕ). drop k s) e
+
+  -- the records left after the first i are those of the bytes that follow them
+  module _ (left : List Tick) (rest : left ≡ records_of (drop (8 * i) s)) where
+    left_length : length left ≡ length (drop (8 * i) s) / 8
+    left_length = ap length rest ∙ length_records (drop (8 * i) s)
+
+    pub next_record : (tick : Tick) (more : List Tick) → left ≡ tick ∷ more
+        → (tick ≡ tick_at s i) × (more ≡ records_of (drop (8 * (i + 1)) s)) × (i + 1 ≤ length s / 8)
+    next_record tick more e =
+        let n : suc (length more) ≡ length (drop (8 * i) s) / 8 = ap length (sym e) ∙ left_length in
+        let z : tick ∷ more ≡ tick_at (drop (8 * i) s) 0 ∷ records_of (drop 8 (drop (8 * i) s)) =
+        sym e ∙ rest ∙ records_more (drop (8 * i) s) (omega (arith, n)) in
+        (cc (z, tick_later), cc (z, ap records_of more_later), omega (arith, n, length-drop (8 * i) s))
+
+    pub no_record : left ≡ [] → i ≤ length s / 8 → i ≡ length s / 8
+    no_record e fits = omega (arith, ap length (sym e) ∙ left_length, length-drop (8 * i) s, fits)

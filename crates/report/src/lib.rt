@@ -12,6 +12,7 @@ ghost use Rattle.report.specs.Report.{table_text, text_of, Reports};
 ghost use Rattle.report.specs.Inside.{longest};
 
 use machine::Machine;
+use script::Script;
 use text::Text;
 
 // Lent bytes from which no text can be too long.
@@ -24,9 +25,9 @@ pub struct TooShort {
 }
 
 // The text of an accepted table, whose fresh machine is given, and a script.
-fn put_accepted(text: &mut Text, machine: Machine, table: &[u32], script: &[u8])
-    requires { (IsOk (start_answer table.now)) × (machine ≡ (start_of table.now).machine) × (length script.now ≤ 65536) }
-    ensures puts { Puts text.old (table_text table.now script.now) text.new }
+fn put_accepted(text: &mut Text, machine: Machine, table: &[u32], script: Script)
+    requires { (IsOk (start_answer table.now)) × (machine ≡ (start_of table.now).machine) }
+    ensures puts { Puts text.old (table_text table.now script.entry.bytes.now) text.new }
     ensures short { text.new.at ≤ text.old.at + longest }
 {
     let mut results = [0u32; 96];
@@ -37,9 +38,8 @@ fn put_accepted(text: &mut Text, machine: Machine, table: &[u32], script: &[u8])
 }
 
 // The text of a table and a script.
-fn put_table(text: &mut Text, table: &[u32], script: &[u8])
-    requires { length script.now ≤ 65536 }
-    ensures puts { Puts text.old (table_text table.now script.now) text.new }
+fn put_table(text: &mut Text, table: &[u32], script: Script)
+    ensures puts { Puts text.old (table_text table.now script.entry.bytes.now) text.new }
     ensures short { text.new.at ≤ text.old.at + longest }
 {
     let started = start::start(table);
@@ -60,7 +60,10 @@ fn put_file(text: &mut Text, file: &[u8])
     }
     let mut table = [0u32; 128];
     let n = plan::bodies::table_of(plan::reader::rows_of(file), &mut table).unwrap();
-    put_table(text, &table[..n], plan::reader::script_of(file));
+    let script = Script {
+        bytes: plan::reader::script_of(file),
+    };
+    put_table(text, &table[..n], script);
 }
 
 // The text of a file at the front of the bytes, as far as they reach; the answer is its whole length.

@@ -23,7 +23,7 @@ put_script-requires c =
     let a = accepted (goal.at.put_script-requires c).After-unwrap-n in
     let s = c.args.table.now in
     let n = c.unwrap-n.result in
-    (tasks_few s (replicate 96 0) n refl a, c.requires.2, balanced_start s n c.args.machine a c.requires.1)
+    (tasks_few s (replicate 96 0) n refl a, balanced_start s n c.args.machine a c.requires.1)
 
 pub returns-clause-puts : goal.returns-clause-puts
 unfolding table_text
@@ -42,4 +42,4 @@ returns-clause-short c =
     let s = c.args.table.now in
     let n = c.unwrap-n.result in
     let a = accepted (goal.at.returns-clause-short c).After-unwrap-n in
-    omega (arith, c.requires.2, tasks_are s (replicate 96 0) n refl a, tasks_few s (replicate 96 0) n refl a)
+    omega (arith, c.args.script.short, tasks_are s (replicate 96 0) n refl a, tasks_few s (replicate 96 0) n refl a)

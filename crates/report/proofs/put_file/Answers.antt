@@ -42,10 +42,10 @@ slice_bounds-put_table-end c =
     let few = rows_few c.args.file.now (accepted at) (below at) _ _ (taken at) c.unwrap-n.result c.unwrap-n.ensures in
     sym (length-take-le _ _ (omega (arith, c.table_of.auto.table, few)))
 
-pub put_table-requires : goal.put_table-requires
-put_table-requires c =
-    let at = (goal.at.put_table-requires c).After-table_of in
-    omega (arith, ap length c.script_of.ensures, part_short c.args.file.now (accepted at) script_kind)
+pub invariant_of-script : goal.invariant_of-script
+invariant_of-script c =
+    let at = (goal.at.invariant_of-script c).After-table_of in
+    record { short = omega (arith, ap length c.script_of.ensures, part_short c.args.file.now (accepted at) script_kind) }
 
 pub returns-clause-puts : goal.returns-clause-puts
 unfolding text_of

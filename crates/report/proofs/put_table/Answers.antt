@@ -7,7 +7,7 @@ use Rattle.report.proofs.put_table.Goals as goal
 pub put_accepted-requires : goal.put_accepted-requires
 put_accepted-requires c =
     let st = c.start-started in
-    (rw (sym (started_answer _ _ st.ensures) ∙ c.in-Ok.is), ap (λ (x : Started). x.machine) st.ensures, c.requires)
+    (rw (sym (started_answer _ _ st.ensures) ∙ c.in-Ok.is), ap (λ (x : Started). x.machine) st.ensures)
 
 pub returns-in-Err-clause-puts : goal.returns-in-Err-clause-puts
 unfolding table_text
