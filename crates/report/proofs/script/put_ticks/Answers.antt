@@ -1,15 +1,13 @@
-use Prim.Native.Nat.{ℕ, ◌+◌, ◌*◌, ◌/◌, ◌≤◌}
+use Prim.Native.Nat.{◌+◌, ◌/◌, ◌≤◌}
 use mathlib.Core.Path.{◌≡◌, refl, ap, ◌∙◌}
 use mathlib.Core.List.{[], ◌∷◌, ◌++◌}
 use native.Mathlib.Omega.{arith}
 use lib.ListN.{length, length-append}
 use Rattle.plan.specs.declared.Tick.{Tick}
 use Rattle.plan.specs.Bodies.{tick_at}
-use Rattle.demands.specs.Runs.{Run, onward, run}
-use Rattle.text.specs.Put.{Puts}
+use Rattle.demands.specs.Runs.{Run, onward}
 use Rattle.text.proofs.Laws.{puts_none, puts_then}
 use Rattle.report.specs.Report.{tick_of, ticks_from, tick_lines}
-use Rattle.report.specs.Inside.{Totals}
 use Rattle.report.proofs.Counts.{totals_more, totals_low}
 use Rattle.report.proofs.Plans.{next_record, no_record}
 use Rattle.report.proofs.Ticks.{so_far, so_far_more, taken_few, next_answer, next_machine, lines_turn}
