@@ -2,7 +2,7 @@
 use mathlib.Core.Path.{◌≡◌, refl}
 use mathlib.Core.Bool.{Bool, true, false, ◌&&◌}
 use mathlib.Core.List.{List, [], ◌∷◌}
-use Prim.Native.Nat.{ℕ, zero, suc, ◌+◌, ◌-◌, ◌≤◌, ◌<◌, ◌/◌, ◌^◌}
+use Prim.Native.Nat.{ℕ, suc, ◌+◌, ◌-◌, ◌≤◌, ◌<◌, ◌/◌, ◌^◌}
 use native.Mathlib.Nat.{zero-div, zero-add}
 use native.Mathlib.Omega.{arith}
 use lib.Dec.{leb}
@@ -11,7 +11,7 @@ use lib.Pow.{shr-shr}
 use borrow.Author.Tests.{leb-true, le-leb}
 use Rattle.std.specs.Prelude.{Option, Some, None, MatchOption}
 use Rattle.machine.specs.declared.Row.{Row}
-use Rattle.machine.specs.Rows.{in_mask, at, none, first_from, first}
+use Rattle.machine.specs.Rows.{in_mask, first_from, first}
 use Rattle.machine.specs.TickRule.{past_last}
 use Rattle.machine.specs.OnePass.{place}
 use Rattle.machine.proofs.Tests.{and_false}
@@ -54,5 +54,5 @@ module _ (mask count : ℕ) where
   past_law rows (Some i) l h =
       let e : (in_mask mask i && leb count i) ≡ true = rw (h.2, le-leb count i h.0) in
       let q = is_first (past_last mask count) rows 0 i (omega (arith, h.1)) (rw (zero-add i) e)
-          (λ k lt. rw (zero-add k) (past_fails k (λ le. h.3 k le lt))) in
+      (λ k lt. rw (zero-add k) (past_fails k (λ le. h.3 k le lt))) in
       rw (q, zero-add i)

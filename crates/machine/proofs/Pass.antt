@@ -10,16 +10,16 @@ use lib.Dec.{leb}
 use lib.ListN.{length, get_or, set, take, drop, drop_of_length-le}
 use lib.Seq.{take-suc, length-take-le, take_all, drop-cons, get_or_at, set_at, append_snoc}
 use borrow.Author.Tests.{leb-false, le-leb, lt-leb, not-true, not-false}
-use Rattle.std.specs.Prelude.{Some, None, is_some, Ok, Err}
+use Rattle.std.specs.Prelude.{None, is_some, Ok, Err}
 use Rattle.std.proofs.lemmas.List.{take-append-drop}
 use Rattle.std.proofs.lemmas.List.Folds.{list_all_at, list_all_more}
 use Rattle.refusals.specs.declared.Refusal.{Refusal}
 use Rattle.machine.specs.declared.Row.{Row}
 use Rattle.machine.specs.declared.Seen.{Seen}
-use Rattle.machine.specs.Rows.{no_row, in_mask, Found, at, none, first_from, first, map_from, every, how_many, is_hyper, has_begun, has_budget}
+use Rattle.machine.specs.Rows.{no_row, in_mask, Found, at, none, first_from, first, map_from, every, how_many, has_begun}
 use Rattle.machine.specs.WellFormed.{row_fits, is_blank, begun_row}
-use Rattle.machine.specs.TickRule.{younger_than, too_soon, while_hyper, begun, waiting, ready, turned}
-use Rattle.machine.specs.OnePass.{place, turned_by, turned_row, first_kept, second_begun, row_seen, seen_in, places_fit, answer_if}
+use Rattle.machine.specs.TickRule.{too_soon, while_hyper, begun, waiting, ready, turned}
+use Rattle.machine.specs.OnePass.{place, turned_by, turned_row, second_begun, row_seen, seen_in, places_fit, answer_if}
 use Rattle.machine.proofs.Tests.{both, and_false, blank_never}
 use Rattle.machine.proofs.Searches.{place_more, every_law, count_more, count_take, count_blank, none_found, some_found}
 use Rattle.machine.proofs.Choice.{turned_length, turned_more}

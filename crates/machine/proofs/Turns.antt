@@ -3,7 +3,7 @@
 use mathlib.Core.Path.{◌≡◌, refl, ◌∙◌, ap, sym}
 use mathlib.Core.Bool.{Bool, true, false, not, ◌&&◌, ◌||◌, cond, true≢false}
 use mathlib.Core.List.{List, [], ◌∷◌, ◌++◌}
-use Prim.Native.Nat.{ℕ, suc, ◌+◌, ◌-◌, ◌≤◌, ◌<◌, ◌^◌}
+use Prim.Native.Nat.{ℕ, suc, ◌+◌, ◌≤◌, ◌<◌, ◌^◌}
 use native.Mathlib.Omega.{arith}
 use lib.Dec.{leb, ltb, eqb}
 use lib.ListN.{length, get_or, take, drop, length-append, length-drop}
@@ -15,16 +15,14 @@ use Rattle.refusals.specs.declared.Refusal.{Refusal}
 use Rattle.machine.specs.declared.Stage.{Stage}
 use Rattle.machine.specs.declared.Row.{Row}
 use Rattle.machine.specs.declared.Machine.{Machine}
-use Rattle.machine.specs.declared.Taken.{Taken}
-use Rattle.machine.specs.declared.Seen.{Seen}
-use Rattle.machine.specs.Rows.{no_row, in_mask, Found, at, none, first_from, first, map_from, every, is_hyper, has_budget}
+use Rattle.machine.specs.Rows.{no_row, in_mask, Found, at, none, first, map_from, every}
 use Rattle.machine.specs.WellFormed.{row_fits, is_blank, one_begun, well_formed}
 use Rattle.machine.specs.TickRule.{past_last, too_soon, while_hyper, Verdict, refused, accepted, verdict, enforced, begun, waiting, ready, chosen, turned, ran_on, taken, step_of}
 use Rattle.machine.specs.OnePass.{place, found, MayRun, is_due, turned_row, places_fit, seen_in, chosen_by, or_refused, judged_by}
 use Rattle.machine.proofs.Tests.{both, first_fails, and_true, and_false, not_leb, blank_never}
-use Rattle.machine.proofs.Searches.{place_below, place_at, found_place, first_blank, none_at, map_append, map_length}
+use Rattle.machine.proofs.Searches.{place_below, place_at, found_place, first_blank, none_at, map_append}
 use Rattle.machine.proofs.Mask.{past_same}
-use Rattle.machine.proofs.Verdicts.{formed, past_in, soon_in, hyper_in, passed}
+use Rattle.machine.proofs.Verdicts.{past_in, soon_in, hyper_in, passed}
 use Rattle.machine.proofs.Choice.{turned_law, turned_length, chosen_law, chosen_runs}
 
 -- a row that is neither in the mask nor due stays

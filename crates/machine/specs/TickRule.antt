@@ -8,7 +8,6 @@ use Rattle.machine.specs.declared.Ran.{Ran}
 use Rattle.machine.specs.declared.Mark.{Mark}
 use Rattle.machine.specs.declared.Outcome.{Outcome}
 use Rattle.machine.specs.declared.Taken.{Taken}
-use Rattle.machine.specs.Answers.{Answer}
 use Rattle.machine.specs.declared.Stepped.{Stepped}
 use Rattle.machine.specs.Rows.{no_row, with_stage, in_mask, age, Found, at, none, first, or_else, map_from, is_hyper, has_begun, has_budget}
 use Rattle.machine.specs.WellFormed.{well_formed}

@@ -7,7 +7,6 @@ use borrow.Author.Rules.{rules}
 use lib.ListN.{length, take}
 use mathlib.Core.Path.{◌≡◌, ◌∙◌, sym}
 use mathlib.Core.Bool.{true}
-use Rattle.machine.specs.declared.Seen.{Seen}
 use Rattle.machine.proofs.Machine.tick.Goals as goal
 use Rattle.machine.proofs.Machine.tick.Goals.{In_ok-seen}
 

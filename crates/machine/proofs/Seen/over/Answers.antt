@@ -1,18 +1,16 @@
 use Rattle.machine.proofs.Pass.{pass_begins, reads, answered, not_answered, pass_ends, pass_on, too_many, table_unfit, rest_unfit, shows, all_fit}
 use Rattle.machine.proofs.Searches.{every_law}
-use Rattle.machine.specs.Rows.{no_row, in_mask, every}
-use Rattle.machine.specs.OnePass.{turned_by, row_seen, second_begun}
-use Rattle.machine.specs.WellFormed.{row_fits, is_blank}
-use Rattle.std.specs.List.{list_all}
+use Rattle.machine.specs.Rows.{every}
+use Rattle.machine.specs.WellFormed.{is_blank}
 use Rattle.std.proofs.lemmas.Iterator.{YieldsList-from_slice}
 use Rattle.std.proofs.lemmas.Iterator.Search.{all_from_yields_List}
 use Rattle.std.proofs.lemmas.Result.{err_from_is_err_and}
 use borrow.Author.Rules.{rules}
 use borrow.Author.Tests.{tests}
-use lib.ListN.{length, get_or, take, drop}
-use mathlib.Core.Path.{◌≡◌, ◌∙◌, sym, ap}
-use mathlib.Core.Bool.{Bool, true, false, not, ◌&&◌}
-use Prim.Native.Nat.{◌<◌, ◌≤◌}
+use lib.ListN.{length, drop}
+use mathlib.Core.Path.{◌≡◌, ◌∙◌, sym}
+use mathlib.Core.Bool.{true, false}
+use Prim.Native.Nat.{◌<◌}
 use native.Mathlib.Omega.{arith}
 use Rattle.machine.proofs.Seen.over.Goals as goal
 
