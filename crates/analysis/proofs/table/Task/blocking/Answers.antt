@@ -9,4 +9,6 @@ use Rattle.analysis.proofs.table.Task.blocking.Goals as goal
 pub returns : goal.returns
 unfolding B
 returns c =
-    c.unwrap_or.ensures ∙ max_is _ _ _ _ (K c.args.self.now.table.now) _ _ (omega arith) (λ k. refl) (λ x y q k. search rules) _ c.map.ensures.source c.map.ensures.closure c.max.ensures.ran
+    let k = K c.args.self.now.table.now in
+    c.unwrap_or.ensures
+    ∙ max_is _ _ _ _ k _ _ (omega arith) (λ x. refl) (λ x y q m. search rules) _ c.map.ensures.source c.map.ensures.closure c.max.ensures.ran
