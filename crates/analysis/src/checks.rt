@@ -1,5 +1,5 @@
 // Refusals 1, 2 and 3: the table's shape.
-ghost use Rattle.std.specs.Prelude.{◌≡◌, ◌*◌, length};
+ghost use Rattle.std.specs.Prelude.{◌≡◌, length};
 ghost use Rattle.least.specs.Search.{first_where};
 ghost use Rattle.equations.specs.Table.{rows};
 ghost use Rattle.equations.specs.Analysis.{bad_field, bad_deadline, table_check};

@@ -1,8 +1,7 @@
 // G of a task: the two windows over the request bounds.
 #![tactic(auto, using(crate::proofs::Limits::windows))]
 
-ghost use Rattle.std.specs.Prelude.{◌≡◌, ℕ, ◌+◌, ◌-◌, ◌*◌, ◌<◌, ◌≤◌, Option};
-ghost use Rattle.least.specs.Search.{first};
+ghost use Rattle.std.specs.Prelude.{◌≡◌, ◌+◌, ◌-◌, ◌*◌, ◌<◌, Option};
 ghost use Rattle.least.specs.Sums.{sum};
 ghost use Rattle.equations.specs.Table.{rows, T, C, K};
 ghost use Rattle.equations.specs.Guest.{begun_by_hypertask, begun_by_guest, bound, below, window_side, WA, WE, guest};

@@ -1,9 +1,9 @@
 // R of a task: active period, starts of its jobs, the largest response.
 #![tactic(auto, using(crate::proofs::Limits::limits))]
 
-ghost use Rattle.std.specs.Prelude.{◌≡◌, ℕ, suc, ◌+◌, ◌-◌, ◌*◌, ◌<◌, ◌≤◌, Option};
+ghost use Rattle.std.specs.Prelude.{◌≡◌, suc, ◌+◌, ◌-◌, ◌*◌, ◌<◌, ◌≤◌, Option};
 ghost use Rattle.least.specs.Sums.{sum};
-ghost use Rattle.equations.specs.Table.{rows, T, Sound};
+ghost use Rattle.equations.specs.Table.{T};
 ghost use Rattle.equations.specs.Hypertask.{B, demand, active_side, active_period, start_demand, start, job_response, worst, response};
 ghost use Rattle.equations.specs.Hypertask.{releases as releasesOf};
 ghost use Rattle.equations.proofs.Bounds.{active_never_falls, starts_never_fall};

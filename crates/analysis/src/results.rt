@@ -1,6 +1,6 @@
 // R, E and G of the rows in their order, and into lent memory.
 ghost use Rattle.std.specs.Prelude.{◌≡◌, ◌+◌, ◌*◌, ◌≤◌, ◌++◌, length, drop, Ok, MatchResult};
-ghost use Rattle.equations.specs.Table.{rows, Sound};
+ghost use Rattle.equations.specs.Table.{rows};
 ghost use Rattle.equations.specs.Analysis.{hypertask_check, guest_check};
 ghost use Rattle.analysis.specs.Inside.{Hypertasks, Guests, three_at};
 ghost use Rattle.least.specs.Lists.{flat};

@@ -1,7 +1,7 @@
 // A fresh machine from a table: document 01, "Starting a machine checks 1, 2, 3, 5, 6, 7", and 19 right after 7.
 #![tactic(auto)]
 
-ghost use Rattle.std.specs.Prelude.{◌≡◌, ◌+◌, ◌*◌, ◌-◌, ◌<◌, ◌≤◌, [], ◌++◌, length, replicate};
+ghost use Rattle.std.specs.Prelude.{◌≡◌, ◌+◌, ◌*◌, ◌-◌, ◌<◌, ◌≤◌};
 ghost use Rattle.equations.specs.Table.{rows};
 ghost use Rattle.machine.specs.Rows.{no_row};
 ghost use Rattle.start.specs.Start.{row_of, rows_of, start_of};
