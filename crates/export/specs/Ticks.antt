@@ -1,7 +1,8 @@
 -- Ticks one after the other, and their answers as 12 bytes each: the clock before the tick (4 bytes, modulo 2^32), the refusal's place (4 bytes),
 -- who ran (0 nobody, 1 guest, 2 hypertask, 3 refused), the task or the refusal's number, the mark (0 none, 1 output, 2 budget used up), ignored 0 or 1.
 -- Assumes nothing.
-use Rattle.std.specs.Prelude.{◌≡◌, Bool, true, false, cond, List, [], ◌∷◌, ◌++◌, ℕ, zero, suc, ◌*◌, ◌/◌, ◌%◌, min, eqb, length, drop, Option, None, Some, Ok, Err}
+use Rattle.std.specs.Prelude.{◌≡◌, Bool, true, false, cond, List, [], ◌∷◌, ◌++◌, ℕ, zero, suc, ◌*◌, ◌/◌, ◌%◌, min, eqb, length, drop}
+use Rattle.std.specs.Prelude.{Option, None, Some, Ok, Err}
 use Rattle.least.specs.Lists.{flat}
 use Rattle.refusals.specs.Refusals.{number_of, place_of}
 use Rattle.refusals.specs.declared.Refusal.{Refusal}

@@ -5,11 +5,10 @@ ghost use Rattle.plan.specs.Numbers.{bytes_of};
 ghost use Rattle.export.specs.Inside.{RunsTicks, TakesStep};
 ghost use Rattle.export.specs.Ticks.{who_of, task_of, mark_of, bit_of, said_of, answer_bytes, machine_after, answer_to};
 
+use crate::state;
 use machine::{Machine, Mark, Ran, Taken};
 use plan::bodies;
 use refusals::Refusal;
-
-use crate::state;
 
 // The bytes of a record, and of an answer.
 const RECORD: usize = 8;
@@ -101,11 +100,7 @@ fn take(mut m: Machine, records: &[u8], answers: &mut [u8], n: usize) -> Machine
 }
 
 // A tick for each whole record that has room for its whole answer, from the machine in lent numbers: how many.
-pub(crate) fn run(
-    state: &mut [u64],
-    records: &[u8],
-    answers: &mut [u8],
-) -> Result<usize, Refusal>
+pub(crate) fn run(state: &mut [u64], records: &[u8], answers: &mut [u8]) -> Result<usize, Refusal>
     ensures { RunsTicks state.old records.now answers.old result state.new answers.new }
 {
     let numbers = state.first_chunk_mut().ok_or(UNREADABLE)?;
@@ -130,7 +125,9 @@ pub(crate) fn step(
     if 1 < early {
         return Err(Refusal::RecordBytes(0));
     }
-    let said = answer.first_chunk_mut().ok_or(Refusal::OutputShort(ANSWER))?;
+    let said = answer
+        .first_chunk_mut()
+        .ok_or(Refusal::OutputShort(ANSWER))?;
     let numbers = state.first_chunk_mut().ok_or(UNREADABLE)?;
     let m = state::machine_in(numbers).ok_or(UNREADABLE)?;
     let s = m.step(mask, signal, early == 1);

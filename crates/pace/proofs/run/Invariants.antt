@@ -5,4 +5,5 @@ use Rattle.pace.proofs.run.Given as goal
 
 abbrev pub invariant-loop : goal.invariant-loop
 invariant-loop l =
-    (l.s.machine ≡ machine_after l.fn.m l.mask l.signal l.early l.counter) × (l.total ≡ ticks_sum l.fn.m l.mask l.signal l.early l.counter) × (l.total ≤ 1020 * l.counter)
+    (l.s.machine ≡ machine_after l.fn.m l.mask l.signal l.early l.counter) × (l.total ≡ ticks_sum l.fn.m l.mask l.signal l.early l.counter)
+    × (l.total ≤ 1020 * l.counter)
