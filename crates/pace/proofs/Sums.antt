@@ -1,12 +1,12 @@
 -- Laws of ticks added up.
 -- Assumes nothing.
-use mathlib.Core.Path.{◌≡◌, sym, ap, ◌∙◌}
-use mathlib.Core.Bool.{Bool, true, false}
+use mathlib.Core.Path.{◌≡◌, refl, sym, ap, ◌∙◌}
+use mathlib.Core.Bool.{Bool, true, false, cond}
 use mathlib.Core.List.{List}
 use Prim.Native.Nat.{ℕ, ◌+◌, ◌≤◌, ◌<◌}
 use native.Mathlib.Numerals.{add-one}
 use borrow.Author.Tests.{lt-ltb, le-ltb}
-use lib.Dec.{eqb}
+use lib.Dec.{ltb, eqb}
 use Rattle.least.proofs.Sums.{sum_step}
 use Rattle.machine.specs.TickRule.{step_of}
 use Rattle.machine.specs.declared.Machine.{Machine}
@@ -35,9 +35,13 @@ pub pace_unread : (s : List ℕ) (mask signal early times : ℕ) → readable s 
 unfolding pace_of
 pace_unread s mask signal early times h = rw h
 
-pub pace_many : (s : List ℕ) (mask signal early times : ℕ) → readable s ≡ true → 4294967296 < times → 0 ≡ pace_of s mask signal early times
+pub pace_many : (s : List ℕ) (mask signal early times : ℕ) → 4294967296 < times → 0 ≡ pace_of s mask signal early times
 unfolding pace_of
-pace_many s mask signal early times h g = rw (h, lt-ltb _ _ g)
+pace_many s mask signal early times g = go (readable s)
+  where
+    go : (b : Bool) → 0 ≡ cond b (cond (ltb 4294967296 times) 0 (ticks_sum (machine_in s) mask signal (eqb early 1) times)) 0
+    go true = rw (lt-ltb _ _ g)
+    go false = refl
 
 pub pace_is : (s : List ℕ) (mask signal early times r : ℕ) (m : Machine) → readable s ≡ true → times ≤ 4294967296 → m ≡ machine_in s
     → r ≡ ticks_sum m mask signal (eqb early 1) times → r ≡ pace_of s mask signal early times

@@ -55,11 +55,11 @@ fn run(m: Machine, mask: u32, signal: u8, early: bool, times: u64) -> u64
 pub fn tollsalmon_bench_ticks(state: &[u64], mask: u32, signal: u8, early: u8, times: u64) -> u64
     ensures { result ≡ pace_of state.now mask signal early times }
 {
-    let Some(m) = export::state::read(state) else {
-        return 0;
-    };
     if MOST_TIMES < times {
         return 0;
     }
+    let Some(m) = export::state::read(state) else {
+        return 0;
+    };
     run(m, mask, signal, early == 1, times)
 }

@@ -11,8 +11,7 @@ returns-in_default c =
 pub returns-then-times-gt-MOST_TIMES : goal.returns-then-times-gt-MOST_TIMES
 returns-then-times-gt-MOST_TIMES c =
     let a = c.args in
-    let r = read_some a.state.now _ (sym c.in-Some.ensures) in
-    pace_many a.state.now a.mask a.signal a.early a.times r.0 c.if-times-gt-MOST_TIMES.true
+    pace_many a.state.now a.mask a.signal a.early a.times c.if-times-gt-MOST_TIMES.true
 
 pub returns : goal.returns
 returns c =
