@@ -24,8 +24,8 @@ fn stage_numbers(s: Stage) -> [u64; 3]
     }
 }
 
-fn row_numbers(r: Row) -> [u64; PLACE]
-    ensures { result ≡ row_numbers r }
+fn row_numbers(r: &Row) -> [u64; PLACE]
+    ensures { result ≡ row_numbers r.now }
 {
     let [stage, arrival, ticks] = stage_numbers(r.stage);
     [
@@ -40,14 +40,14 @@ fn row_numbers(r: Row) -> [u64; PLACE]
     ]
 }
 
-pub(crate) fn put(numbers: &mut [u64; STATE], m: Machine)
-    ensures { numbers.new ≡ state_of m }
+pub(crate) fn put(numbers: &mut [u64; STATE], m: &Machine)
+    ensures { numbers.new ≡ state_of m.now }
 {
     numbers[0] = m.count as u64;
     numbers[1] = m.clock;
     for (i, row) in m.rows.iter().enumerate() {
         let at = 2 + PLACE * i;
-        numbers[at..at + PLACE].copy_from_slice(&row_numbers(*row));
+        numbers[at..at + PLACE].copy_from_slice(&row_numbers(row));
     }
 }
 
@@ -61,7 +61,7 @@ pub(crate) fn start(table: &[u32], state: &mut [u64]) -> Result<usize, Refusal>
         return Err(Refusal::OutputShort(STATE));
     };
     let s = start::start(table);
-    put(numbers, s.machine);
+    put(numbers, &s.machine);
     s.answer
 }
 
@@ -117,6 +117,7 @@ pub(crate) fn machine_in(numbers: &[u64; STATE]) -> Option<Machine>
 }
 
 // A machine from lent numbers, where it can be read.
+#[inline(never)]
 pub fn read(state: &[u64]) -> Option<Machine>
     ensures { result ≡ read_of state.now }
 {

@@ -107,7 +107,7 @@ pub(crate) fn run(state: &mut [u64], records: &[u8], answers: &mut [u8]) -> Resu
     let m = state::machine_in(numbers).ok_or(UNREADABLE)?;
     let n = (records.len() / RECORD).min(answers.len() / ANSWER);
     if 0 < n {
-        state::put(numbers, take(m, records, answers, n));
+        state::put(numbers, &take(m, records, answers, n));
     }
     Ok(n)
 }
@@ -133,6 +133,6 @@ pub(crate) fn step(
     let s = m.step(mask, signal, early == 1);
     let taken = s.answer?;
     *said = answer_bytes(m.clock, Ok(taken));
-    state::put(numbers, s.machine);
+    state::put(numbers, &s.machine);
     Ok(())
 }
