@@ -40,21 +40,60 @@ impl Equation for Window<'_> {
 }
 
 impl<'a> Guest<'a> {
-    // E of row j.
-    fn e(&self, j: usize) -> u32
+    // The guest of row j.
+    fn at(&self, j: usize) -> Guest<'a>
         requires { j < rows self.now.task.table.now }
-        ensures { result ≡ offset_in self.now.found.now j }
+        ensures table { result.task.table.now ≡ self.now.task.table.now }
+        ensures row { result.task.row ≡ j }
+        ensures found { result.found.now ≡ self.now.found.now }
     {
-        self.found[j].e
+        Guest {
+            task: self.task.at(j),
+            found: self.found,
+        }
+    }
+
+    // Its E.
+    fn e(&self) -> u32
+        ensures { result ≡ offset_in self.now.found.now self.now.task.row }
+    {
+        self.found[self.task.row].e
+    }
+
+    // The request bound that a hypertask begins.
+    #[tactic(auto, using(crate::proofs::Limits::windows), unfolding(equations::specs::Guest::begun_by_hypertask))]
+    fn begun_by_hypertask(&self, w: u32) -> u64
+        ensures { let s = self.now.task.table.now in let i = self.now.task.row in
+            result ≡ begun_by_hypertask (T s i) (C s i) (K s i) (offset_in self.now.found.now i) w }
+    {
+        let task = &self.task;
+        let after = task.t().saturating_sub(self.e());
+        task.load(w.saturating_sub(after), task.c()) + task.load(w, task.k())
+    }
+
+    // The request bound that a guest begins.
+    #[tactic(auto, using(crate::proofs::Limits::windows), unfolding(equations::specs::Guest::begun_by_guest))]
+    fn begun_by_guest(&self, w: u32) -> u64
+        ensures { let s = self.now.task.table.now in let i = self.now.task.row in
+            result ≡ begun_by_guest (T s i) (C s i) (K s i) (offset_in self.now.found.now i) w }
+    {
+        let task = &self.task;
+        task.load(w, task.c()) + task.load(w.saturating_sub(self.e()), task.k())
+    }
+
+    // The larger of the two.
+    #[tactic(auto, using(crate::proofs::Limits::windows), unfolding(equations::specs::Guest::bound))]
+    fn bound(&self, w: u32) -> u64
+        ensures { result ≡ bound self.now.task.table.now (offset_in self.now.found.now) w self.now.task.row }
+    {
+        self.begun_by_hypertask(w).max(self.begun_by_guest(w))
     }
 
     // The sum of the request bounds of the rows above.
     fn bounds_above(&self, w: u32) -> u64
         ensures { result ≡ sum (bound self.now.task.table.now (offset_in self.now.found.now) w) self.now.task.row }
     {
-        (0..self.task.row)
-            .map(|j| self.task.at(j).bound(self.e(j), w))
-            .sum()
+        (0..self.task.row).map(|j| self.at(j).bound(w)).sum()
     }
 
     // WA(i)
@@ -65,7 +104,7 @@ impl<'a> Guest<'a> {
             guest: *self,
             own: self.task.c(),
         };
-        least(&window, 1, self.e(self.task.row) + 1)
+        least(&window, 1, self.e() + 1)
     }
 
     // WE(i)
@@ -89,37 +128,12 @@ impl<'a> Guest<'a> {
         let we = self
             .window_begun_by_hypertask()
             .ok_or(Refusal::NoHypertaskWindow(self.task.row + 1))?;
-        let before = self.task.t().saturating_sub(self.e(self.task.row));
+        let before = self.task.t().saturating_sub(self.e());
         Ok(wa.max(we.saturating_sub(before)))
     }
 }
 
 impl<'a> Task<'a> {
-    // The request bound that a hypertask begins.
-    #[tactic(auto, using(crate::proofs::Limits::windows), unfolding(equations::specs::Guest::begun_by_hypertask))]
-    fn begun_by_hypertask(&self, e: u32, w: u32) -> u64
-        ensures { let s = self.now.table.now in let i = self.now.row in result ≡ begun_by_hypertask (T s i) (C s i) (K s i) e w }
-    {
-        let after = self.t().saturating_sub(e);
-        self.load(w.saturating_sub(after), self.c()) + self.load(w, self.k())
-    }
-
-    // The request bound that a guest begins.
-    #[tactic(auto, using(crate::proofs::Limits::windows), unfolding(equations::specs::Guest::begun_by_guest))]
-    fn begun_by_guest(&self, e: u32, w: u32) -> u64
-        ensures { let s = self.now.table.now in let i = self.now.row in result ≡ begun_by_guest (T s i) (C s i) (K s i) e w }
-    {
-        self.load(w, self.c()) + self.load(w.saturating_sub(e), self.k())
-    }
-
-    // The larger of the two.
-    #[tactic(auto, using(crate::proofs::Limits::windows), unfolding(equations::specs::Guest::bound))]
-    fn bound(&self, e: u32, w: u32) -> u64
-        ensures { result ≡ bound self.now.table.now (λ _. e) w self.now.row }
-    {
-        self.begun_by_hypertask(e, w).max(self.begun_by_guest(e, w))
-    }
-
     // The sum of up(w/T)·K over the rows below.
     fn demand_below(&self, w: u32) -> u64
         ensures { result ≡ below self.now.table.now self.now.row w }
