@@ -9,7 +9,7 @@ use borrow.Author.Tests.{lt-ltb}
 use borrow.Rule.Slice.PartMut.{put_mid}
 use lib.ListN.{length, take, drop}
 use lib.Seq.{drop-drop}
-use Rattle.std.specs.Prelude.{Ok, Err, Option, None, Some}
+use Rattle.std.specs.Prelude.{Ok, Err, Option, Some}
 use Rattle.std.specs.Option.{IsSome}
 use Rattle.least.specs.Lists.{flat}
 use Rattle.least.proofs.Lists.{block_more}

@@ -1,13 +1,13 @@
 -- Each way out of a run of ticks and of one tick, and what they are told as.
 -- Assumes nothing.
 use mathlib.Core.Path.{◌≡◌, refl, sym, ap, ◌∙◌}
-use mathlib.Core.Bool.{Bool, true, false, cond}
+use mathlib.Core.Bool.{true, false}
 use mathlib.Core.List.{List, ◌++◌}
 use Prim.Native.Nat.{ℕ, ◌*◌, ◌/◌, ◌≤◌, ◌<◌, min}
 use native.Mathlib.Omega.{arith}
-use borrow.Author.Tests.{lt-ltb, le-ltb, eq-eqb, ne_eqb}
+use borrow.Author.Tests.{lt-ltb, le-ltb, ne_eqb}
 use lib.Dec.{eqb}
-use lib.ListN.{length, take, drop, take-append-drop}
+use lib.ListN.{length, drop, take-append-drop}
 use Rattle.std.specs.Prelude.{Option, Result, None, Some, Ok, Err}
 use Rattle.std.specs.Option.{ok_or}
 use Rattle.std.specs.Result.{IsErrAnd}
@@ -21,15 +21,12 @@ use Rattle.machine.specs.declared.Taken.{Taken}
 use Rattle.machine.specs.Answers.{Answer}
 use Rattle.machine.specs.declared.Machine.{Machine}
 use Rattle.machine.specs.declared.Stepped.{Stepped}
-use Rattle.plan.specs.Answers.{Answer as Answered, Writing}
+use Rattle.plan.specs.Answers.{Answer as Answered}
 use Rattle.plan.specs.Refuse.{answer_of}
-use Rattle.plan.specs.Writer.{writing_of}
-use Rattle.export.specs.Files.{refusal_number, refusal_place}
-use Rattle.export.specs.Numbers.{number_in, place_in}
 use Rattle.export.specs.Inside.{RunsTicks, TakesStep}
 use Rattle.export.specs.State.{state_of, machine_in, readable, read_of}
 use Rattle.export.specs.Step.{step_in, refusal_in, step_refusal, state_stepped, answer_stepped}
-use Rattle.export.specs.Ticks.{answer_bytes, machine_after, answer_to, ticks_refusal, ticks_taken, state_after, answers_after}
+use Rattle.export.specs.Ticks.{answer_bytes, machine_after, answer_to, ticks_taken}
 use Rattle.export.proofs.States.{too_few, read_none, read_some, read_front}
 
 -- ## A `?`

@@ -2,27 +2,20 @@
 -- Assumes nothing.
 use mathlib.Core.Path.{◌≡◌, refl, sym, ap, ◌∙◌}
 use mathlib.Core.Bool.{Bool, true, false}
-use mathlib.Core.List.{List, ◌++◌}
-use Rattle.std.specs.Prelude.{Option, None, Some, Ok, Err}
-use Prim.Native.Nat.{ℕ, ◌+◌, ◌/◌, ◌%◌, ◌≤◌, ◌<◌}
-use native.Mathlib.Nat.{lt_irrefl, zero-add}
+use mathlib.Core.List.{List}
+use Rattle.std.specs.Prelude.{Option, None, Some}
+use Prim.Native.Nat.{ℕ, ◌/◌, ◌%◌}
 use native.Mathlib.Omega.{arith}
-use borrow.Author.Tests.{lt-ltb, le-ltb, eq-eqb}
+use borrow.Author.Tests.{eq-eqb}
 use lib.Dec.{ltb}
-use lib.ListN.{length, get_or, set, take, drop}
-use lib.Seq.{sets, take_all}
-use Rattle.refusals.specs.Refusals.{number_of, place_of}
+use lib.ListN.{length}
 use Rattle.refusals.specs.declared.Refusal.{Refusal}
 use Rattle.plan.specs.Numbers.{table_of, AllBelow}
-use Rattle.plan.specs.Refuse.{answer_of}
 use Rattle.plan.specs.PlanFile.{sections_of, body_of, rows_kind, read_refusal, part_if, part_of}
 use Rattle.plan.specs.Bodies.{taken_of, after_taken}
-use Rattle.plan.specs.Writer.{plan_file, write_refusal, writing_of, Writes}
-use Rattle.plan.specs.Answers.{Answer, Writing}
 use Rattle.plan.proofs.Values.{numbers_length}
-use Rattle.plan.proofs.Puts.{script_step, sets_front}
 use Rattle.plan.proofs.RoundTrips.{accepted_rows}
-use Rattle.export.specs.Files.{refusal_number, refusal_place, to_front, ChecksFile, WritesFile}
+use Rattle.export.specs.Files.{to_front}
 
 -- what is handed back of any file is in fours
 pub rows_fours : (f : List ℕ) → AllBelow 256 f → length (part_of rows_kind f) % 4 ≡ 0

@@ -23,7 +23,7 @@ use Rattle.machine.specs.declared.Row.{Row}
 use Rattle.machine.specs.declared.Machine.{Machine}
 use Rattle.plan.proofs.Tests.{or_inv}
 use Rattle.export.specs.Inside.{row_told}
-use Rattle.export.specs.State.{row_numbers, place_numbers, state_of, number_in, row_in, machine_in, stray, unreadable, is_none, readable, read_of}
+use Rattle.export.specs.State.{place_numbers, state_of, number_in, row_in, machine_in, stray, unreadable, is_none, readable, read_of}
 
 -- ## To numbers
 

@@ -57,9 +57,7 @@ pub(crate) fn start(table: &[u32], state: &mut [u64]) -> Result<usize, Refusal>
     ensures answers { result ≡ start_says table.now (length state.old) }
     ensures leaves { state.new ≡ state_started table.now state.old }
 {
-    let Some(numbers) = state.first_chunk_mut() else {
-        return Err(Refusal::OutputShort(STATE));
-    };
+    let numbers = state.first_chunk_mut().ok_or(Refusal::OutputShort(STATE))?;
     let s = start::start(table);
     put(numbers, &s.machine);
     s.answer
@@ -106,8 +104,8 @@ pub(crate) fn machine_in(numbers: &[u64; STATE]) -> Option<Machine>
 {
     let (places, _) = numbers[2..].as_chunks();
     let mut rows = [start::no_row(); 32];
-    for i in 0..32 {
-        rows[i] = row_in(&places[i])?;
+    for (i, row) in rows.iter_mut().enumerate() {
+        *row = row_in(&places[i])?;
     }
     Some(Machine {
         rows,
@@ -116,7 +114,8 @@ pub(crate) fn machine_in(numbers: &[u64; STATE]) -> Option<Machine>
     })
 }
 
-// A machine from lent numbers, where it can be read.
+// A machine from lent numbers, where it can be read. Not inlined, for speed: a compiler that unrolls a loop over all 32 rows
+// takes the array apart into hundreds of moves (docs/DECISIONS.md, "The pass over the rows stands in `step` itself").
 #[inline(never)]
 pub fn read(state: &[u64]) -> Option<Machine>
     ensures { result ≡ read_of state.now }
