@@ -1,6 +1,6 @@
 -- Laws of the responses that stand in an array: one row more.
 -- Assumes nothing.
-use mathlib.Core.Path.{◌≡◌, sym, ap}
+use mathlib.Core.Path.{◌≡◌, sym, ap, subst}
 use mathlib.Core.List.{List, ◌++◌}
 use Rattle.std.specs.Prelude.{Ok}
 use Prim.Native.Nat.{ℕ, ◌+◌, ◌-◌, ◌*◌, ◌≤◌, ◌<◌}
@@ -8,6 +8,7 @@ use native.Mathlib.Decide.{ℕ_discrete as dec_eq}
 use native.Mathlib.Omega.{arith}
 use lib.ListN.{length, set, take, drop, length-set, length-take}
 use Rattle.std.proofs.Common.{get_or-take}
+use Rattle.std.proofs.lemmas.List.{length-drop}
 use lib.Seq.{get_or-set_same, get_or-set_other}
 use Rattle.least.specs.Lists.{flat}
 use Rattle.least.proofs.Lists.{flat_same}
@@ -57,6 +58,11 @@ module _ (s : List ℕ) (found : List Responses) (i : ℕ) (b : i < 32) where
   guests_more g n h f q =
       let x : Responses = record { r = (at_row found i).r; e = (at_row found i).e; g = g } in
       record { g = λ j p. stored found i x (λ k y. guest s k ≡ Ok y.g) (omega (arith, h.long)) q j (λ o. f.g j (omega arith)) }
+
+-- rows written at the front of the array, and the places after them as they were
+pub filled : (s : List ℕ) (front all : List Responses) (k i n : ℕ) → length front ≡ k → k ≤ 32 → length all ≡ 32 → i ≡ n
+    → ((rest : List Responses) → length front + length rest ≡ 32 → Hypertasks s (front ++ rest) i) → Hypertasks s (front ++ drop k all) n
+filled s front all k i n a b c e f = subst (Hypertasks s (front ++ drop k all)) e (f (drop k all) (omega (arith, length-drop k all)))
 
 -- the first n rows of the array hold the definition's results
 pub results_are : (s : List ℕ) (found : List Responses) (n : ℕ) → Hypertasks s found n → Guests s found n → (lent : List ℕ) → n ≤ 32

@@ -25,10 +25,10 @@ pub(crate) fn hypertasks(table: &Table<'_>) -> Result<[Responses; 32], Refusal>
         (λ f. hypertask_check table.now ≡ Err f) }
 {
     let mut found = [Responses { r: 0, e: 0, g: 0 }; 32];
-    for i in 0..table.rows() {
+    for (i, row) in found[..table.rows()].iter_mut().enumerate() {
         let task = table.task(i);
         let r = task.response()?;
-        found[i] = Responses {
+        *row = Responses {
             r,
             e: task.d() - r,
             g: 0,

@@ -1,9 +1,17 @@
-use mathlib.Core.Path.{◌≡◌}
+use mathlib.Core.Path.{◌≡◌, refl, subst}
+use mathlib.Core.List.{List, ◌++◌}
+use Prim.Native.Nat.{◌+◌, ◌<◌}
 use native.Mathlib.Omega.{arith}
+use lib.ListN.{length, length-set}
+use Rattle.std.proofs.lemmas.List.{set-append_left}
 use Rattle.std.specs.Prelude.{Ok}
+use Rattle.equations.specs.Table.{rows}
+use Rattle.equations.specs.Analysis.{hypertask_check}
 use Rattle.equations.specs.Hypertask.{response}
-use Rattle.equations.proofs.Checks.{rows_next}
-use Rattle.analysis.proofs.Found.{hypertasks_more}
+use Rattle.equations.proofs.Checks.{rows_next, rows_end}
+use Rattle.analysis.specs.Inside.{Hypertasks}
+use Rattle.analysis.specs.declared.results.Responses.{Responses}
+use Rattle.analysis.proofs.Found.{hypertasks_more, filled}
 use Rattle.analysis.proofs.results.hypertasks.Goals as goal
 
 pub loop-i-preserved : goal.loop-i-preserved
@@ -11,4 +19,19 @@ loop-i-preserved c =
     let s = c.args.table.now in
     let l = c.loop-i in
     let found : response s l.i ≡ Ok c.in_ok-r.r = cc (c.in_ok-r.ensures) in
-    (l.invariant.0, rows_next _ _ l.i _ l.invariant.1 (omega arith) found, hypertasks_more s l.found l.i (omega arith) _ _ l.invariant.2 (cc) found)
+    let lt : l.i < length l.row-items = omega arith in (
+      simp length-set l.invariant.0,
+      rows_next _ _ l.i _ l.invariant.1 (omega arith) found,
+      λ rest h. subst (λ (x : List Responses). Hypertasks s x (l.i + 1)) (set-append_left l.row-items rest l.i _ lt)
+          (hypertasks_more s (l.row-items ++ rest) l.i (omega arith) _ _ (l.invariant.2 rest (simp length-set at h)) (cc) found),
+    )
+
+pub returns : goal.returns
+unfolding hypertask_check
+returns c =
+    let s = c.args.table.now in
+    let l = c.loop-i in
+    let e : l.i ≡ rows s = omega (arith, l.invariant.1.upto) in (
+      rows_end _ _ l.i l.invariant.1 (omega arith),
+      filled s l.row-items _ c.rows.result l.i _ (omega arith) (omega arith) refl e l.invariant.2,
+    )
