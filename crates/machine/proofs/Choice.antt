@@ -1,8 +1,8 @@
 -- Who runs after steps 1 and 2. Assumes nothing.
-use mathlib.Core.Path.{◌≡◌, refl}
-use mathlib.Core.Bool.{Bool, true, false, ◌||◌, cond, true≢false}
-use mathlib.Core.List.{List, [], ◌∷◌, ◌++◌}
-use Prim.Native.Nat.{ℕ, suc, ◌+◌, ◌<◌}
+use mathlib.Core.Path.{◌≡◌, refl, ◌∙◌, sym}
+use mathlib.Core.Bool.{Bool, true, false, not, ◌&&◌, ◌||◌, cond, true≢false}
+use mathlib.Core.List.{List, [], ◌∷◌}
+use Prim.Native.Nat.{ℕ, suc, ◌<◌}
 use native.Mathlib.Omega.{arith}
 use lib.Dec.{eqb}
 use lib.ListN.{length, get_or}
@@ -11,9 +11,9 @@ use Rattle.std.specs.Option.{option_or}
 use Rattle.machine.specs.declared.Stage.{Stage}
 use Rattle.machine.specs.declared.Row.{Row}
 use Rattle.machine.specs.Rows.{no_row, in_mask, age, Found, at, none, first_from, first, or_else, map_from, is_hyper, has_begun, has_budget}
-use Rattle.machine.specs.TickRule.{while_hyper, enforced, begun, waiting, ready, chosen, turned}
-use Rattle.machine.specs.OnePass.{place, seen_in, chosen_by, turned_row}
-use Rattle.machine.proofs.Searches.{none_cons, found_at, map_append, map_length, map_map}
+use Rattle.machine.specs.TickRule.{younger_than, too_soon, while_hyper, enforced, begun, waiting, ready, chosen, turned}
+use Rattle.machine.specs.OnePass.{place, seen_in, chosen_by, turned_row, passed_row, passed_rows}
+use Rattle.machine.proofs.Searches.{none_cons, found_at, map_length, map_map}
 
 -- steps 1 and 2 as one change of each row
 pub turned_law : (clock mask : ℕ) (rows : List Row) → turned clock mask rows ≡ map_from (turned_row clock mask) 0 rows
@@ -22,14 +22,6 @@ turned_law clock mask rows = map_map _ _ 0 rows
 
 pub turned_length : (clock mask : ℕ) (rows : List Row) → length (turned clock mask rows) ≡ length rows
 turned_length clock mask rows = rw (turned_law clock mask rows) (map_length (turned_row clock mask) rows 0)
-
--- one row more
-pub turned_more : (clock mask : ℕ) (l : List Row) (r : Row)
-    → turned clock mask (l ++ (r ∷ [])) ≡ turned clock mask l ++ (turned_row clock mask (length l) r ∷ [])
-unfolding map_from
-turned_more clock mask l r =
-    let z : 0 + length l ≡ length l = omega arith in
-    rw (turned_law clock mask (l ++ (r ∷ [])), turned_law clock mask l) (rw z at (map_append (turned_row clock mask) 0 l (r ∷ [])))
 
 -- step 1 begins no hypertask
 pub begun_stays : (clock k e : ℕ) (s : Stage) → has_begun k (enforced clock k e s) ≡ has_begun k s
@@ -65,12 +57,34 @@ begun_all_stay clock mask i (r ∷ rs) h =
     let t = none_cons (while_hyper mask) i r rs h in
     rw (begun_row_stays clock mask i r t.0, begun_all_stay clock mask (suc i) rs t.1)
 
+-- where no arrival is refused, the pass leaves the rows as steps 1 and 2 do
+passed_turned : (clock mask i : ℕ) (l : List Row) → first_from (too_soon mask clock) i l ≡ none → first_from (while_hyper mask) i l ≡ none
+    → map_from (passed_row clock mask) i l ≡ map_from (turned_row clock mask) i l
+unfolding map_from turned_row
+passed_turned clock mask i [] s h = refl
+passed_turned clock mask i (r ∷ rs) s h =
+    let a = none_cons (too_soon mask clock) i r rs s in
+    let b = none_cons (while_hyper mask) i r rs h in
+    rw (go (in_mask mask i) (younger_than clock r.t r.stage) (is_hyper r.stage) a.0 b.0, passed_turned clock mask (suc i) rs a.1 b.1)
+  where
+    go : (x y z : Bool) → (x && y) ≡ false → (x && z) ≡ false → (x && (not y && not z)) ≡ x
+    go true true z p q = absurd (true≢false p)
+    go true false true p q = absurd (true≢false q)
+    go true false false p q = refl
+    go false y z p q = refl
+
+pub passed_law : (clock mask : ℕ) (rows : List Row) → first (too_soon mask clock) rows ≡ none → first (while_hyper mask) rows ≡ none
+    → passed_rows clock mask rows ≡ turned clock mask rows
+unfolding passed_rows
+passed_law clock mask rows s h = passed_turned clock mask 0 rows s h ∙ sym (turned_law clock mask rows)
+
 -- who runs, by what the pass found
-pub chosen_law : (clock mask : ℕ) (rows : List Row) → first (while_hyper mask) rows ≡ none
+pub chosen_law : (clock mask : ℕ) (rows : List Row) → first (too_soon mask clock) rows ≡ none → first (while_hyper mask) rows ≡ none
     → chosen_by (seen_in clock mask rows) ≡ place (chosen (turned clock mask rows))
 unfolding chosen seen_in
-chosen_law clock mask rows h =
-    rw (turned_law clock mask rows, ← begun_all_stay clock mask 0 rows h) (go (first begun after) (first waiting after) (first ready after))
+chosen_law clock mask rows s h =
+    rw (passed_law clock mask rows s h, turned_law clock mask rows, ← begun_all_stay clock mask 0 rows h)
+    (go (first begun after) (first waiting after) (first ready after))
   where
     after : List Row
     after = map_from (turned_row clock mask) 0 rows

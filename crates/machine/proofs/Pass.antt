@@ -18,22 +18,21 @@ use Rattle.machine.specs.declared.Row.{Row}
 use Rattle.machine.specs.declared.Seen.{Seen}
 use Rattle.machine.specs.Rows.{no_row, in_mask, Found, at, none, first_from, first, map_from, every, how_many, has_begun}
 use Rattle.machine.specs.WellFormed.{row_fits, is_blank, begun_row}
-use Rattle.machine.specs.TickRule.{too_soon, while_hyper, begun, waiting, ready, turned}
-use Rattle.machine.specs.OnePass.{place, turned_by, turned_row, second_begun, row_seen, seen_in, places_fit, answer_if}
+use Rattle.machine.specs.TickRule.{too_soon, while_hyper, begun, waiting, ready}
+use Rattle.machine.specs.OnePass.{place, passed_row, passed_rows, second_begun, row_seen, seen_in, places_fit, answer_if}
 use Rattle.machine.proofs.Tests.{both, and_false, blank_never}
-use Rattle.machine.proofs.Searches.{place_more, every_law, count_more, count_take, count_blank, none_found, some_found}
-use Rattle.machine.proofs.Choice.{turned_length, turned_more}
+use Rattle.machine.proofs.Searches.{place_more, map_append, map_length, every_law, count_more, count_take, count_blank, none_found, some_found}
 
--- the first i rows have been seen and turned
+-- the first i rows have been seen, and stand as the pass leaves them
 pub record Passing (clock mask : ℕ) (all : List Row) (i : ℕ) (w : Seen) (rows : List Row) : Type 0 where
   pub seen : w ≡ seen_in clock mask (take i all)
-  pub so_far : rows ≡ turned clock mask (take i all) ++ drop i all
+  pub so_far : rows ≡ passed_rows clock mask (take i all) ++ drop i all
   pub fit : every (row_fits clock) (take i all) ≡ true
   pub one : how_many begun_row (take i all) ≤ 1
 
 pub pass_begins : (clock mask : ℕ) (all : List Row) (w : Seen)
     → (w.soon ≡ None) × (w.hyper ≡ None) × (w.begun ≡ None) × (w.waiting ≡ None) × (w.ready ≡ None) → Passing clock mask all 0 w all
-unfolding first_from every how_many seen_in turned map_from
+unfolding first_from every how_many seen_in passed_rows map_from
 pass_begins clock mask all w e =
     record {
       seen = λ i. record { soon = e.0 i; hyper = e.1 i; begun = e.2 i; waiting = e.3 i; ready = e.4 i };
@@ -42,19 +41,31 @@ pass_begins clock mask all w e =
       one = omega arith;
     }
 
--- what one row more shows
+pub passed_length : (clock mask : ℕ) (l : List Row) → length (passed_rows clock mask l) ≡ length l
+unfolding passed_rows
+passed_length clock mask l = map_length (passed_row clock mask) l 0
+
+-- one row more
+passed_more : (clock mask : ℕ) (l : List Row) (r : Row)
+    → passed_rows clock mask (l ++ (r ∷ [])) ≡ passed_rows clock mask l ++ (passed_row clock mask (length l) r ∷ [])
+unfolding passed_rows map_from
+passed_more clock mask l r =
+    let z : 0 + length l ≡ length l = omega arith in
+    rw z at (map_append (passed_row clock mask) 0 l (r ∷ []))
+
+-- what it shows
 seen_row : (clock mask : ℕ) (l : List Row) (r : Row)
     → row_seen clock (in_mask mask (length l)) (length l) r (seen_in clock mask l) ≡ seen_in clock mask (l ++ (r ∷ []))
-unfolding seen_in row_seen turned_row
+unfolding seen_in row_seen
 seen_row clock mask l r =
     rw (
-      turned_more clock mask l r,
+      passed_more clock mask l r,
       place_more begun l r,
       place_more (too_soon mask clock) l r,
       place_more (while_hyper mask) l r,
-      place_more waiting (turned clock mask l) (turned_row clock mask (length l) r),
-      place_more ready (turned clock mask l) (turned_row clock mask (length l) r),
-      turned_length clock mask l,
+      place_more waiting (passed_rows clock mask l) (passed_row clock mask (length l) r),
+      place_more ready (passed_rows clock mask l) (passed_row clock mask (length l) r),
+      passed_length clock mask l,
     )
 
 -- what an answer says
@@ -78,14 +89,14 @@ module _ (clock mask : ℕ) (all : List Row) (i : ℕ) (w : Seen) (rows : List R
   seen_length : length (take i all) ≡ i
   seen_length = length-take-le i all (omega arith)
 
-  done : length (turned clock mask (take i all)) ≡ i
-  done = turned_length clock mask (take i all) ∙ seen_length
+  done : length (passed_rows clock mask (take i all)) ≡ i
+  done = passed_length clock mask (take i all) ∙ seen_length
 
-  cut : rows ≡ turned clock mask (take i all) ++ row ∷ drop (suc i) all
+  cut : rows ≡ passed_rows clock mask (take i all) ++ row ∷ drop (suc i) all
   cut = p.so_far ∙ rw (drop-cons all i no_row lt)
 
   pub reads : get_or rows i no_row ≡ row
-  reads = rw cut (get_or_at (turned clock mask (take i all)) row (drop (suc i) all) no_row i done)
+  reads = rw cut (get_or_at (passed_rows clock mask (take i all)) row (drop (suc i) all) no_row i done)
 
   one_more : take (i + 1) all ≡ take i all ++ (row ∷ [])
   one_more = rw add-one (take-suc all i no_row lt)
@@ -125,7 +136,7 @@ module _ (clock mask : ℕ) (all : List Row) (i : ℕ) (w : Seen) (rows : List R
           let more : 1 < how_many begun_row all = omega (arith, some_before t.1, count_take begun_row all (i + 1)) in
           rw (lt-leb (how_many begun_row all) 1 more, and_false (every (row_fits clock) all))
 
-  -- a row that is turned
+  -- a row that fits
   module _ (h : (row_fits clock row && not (second_begun row w)) ≡ true) where
     fits : row_fits clock row ≡ true
     fits = (both (row_fits clock row) (not (second_begun row w)) h).0
@@ -141,16 +152,15 @@ module _ (clock mask : ℕ) (all : List Row) (i : ℕ) (w : Seen) (rows : List R
         go true e = let q : is_some w.begun ≡ false = rw e at first_begun in omega (arith, none_before q)
         go false e = p.one
 
-    pub pass_on : Passing clock mask all (i + 1) (row_seen clock (in_mask mask i) i row w) (set rows i (turned_by clock (in_mask mask i) row))
-    unfolding turned_row
+    pub pass_on : Passing clock mask all (i + 1) (row_seen clock (in_mask mask i) i row w) (set rows i (passed_row clock mask i row))
     pass_on =
         record {
           seen = ap (row_seen clock (in_mask mask i) i row) p.seen ∙ (rw seen_length at (seen_row clock mask (take i all) row)) ∙ rw one_more;
           so_far = rw (
             cut,
-            set_at (turned clock mask (take i all)) row (drop (suc i) all) (turned_by clock (in_mask mask i) row) i done,
+            set_at (passed_rows clock mask (take i all)) row (drop (suc i) all) (passed_row clock mask i row) i done,
             one_more,
-            turned_more clock mask (take i all) row,
+            passed_more clock mask (take i all) row,
             seen_length,
             append_snoc,
             add-one,
@@ -201,8 +211,8 @@ module _ (clock count : ℕ) (all : List Row) where
     pub shows : w ≡ seen_in clock mask table
     shows = rw all_rows at p.seen
 
-    pub leaves : rows ≡ turned clock mask table
-    leaves = p.so_far ∙ rw (all_rows, drop_of_length-le table {i = n} end) (append-nil (turned clock mask table))
+    pub leaves : rows ≡ passed_rows clock mask table
+    leaves = p.so_far ∙ rw (all_rows, drop_of_length-le table {i = n} end) (append-nil (passed_rows clock mask table))
 
     pub all_fit : count ≤ 32 → every is_blank rest ≡ true → places_fit clock count all ≡ true
     unfolding places_fit

@@ -17,14 +17,14 @@ use Rattle.machine.specs.declared.Row.{Row}
 use Rattle.machine.specs.declared.Machine.{Machine}
 use Rattle.machine.specs.Rows.{no_row, in_mask, Found, at, none, first, map_from, every}
 use Rattle.machine.specs.WellFormed.{row_fits, is_blank, one_begun, well_formed}
-use Rattle.machine.specs.TickRule.{past_last, too_soon, while_hyper, Verdict, refused, accepted, verdict}
-use Rattle.machine.specs.TickRule.{enforced, begun, waiting, ready, chosen, turned, ran_on, taken, step_of}
-use Rattle.machine.specs.OnePass.{place, found, MayRun, is_due, turned_row, places_fit, seen_in, chosen_by, or_refused, judged_by}
+use Rattle.machine.specs.TickRule.{past_last, too_soon, while_hyper, Verdict, refused, accepted, verdict, enforced, begun, waiting, ready, chosen, turned, ran_on, taken, step_of}
+use Rattle.machine.specs.OnePass.{passed_rows, place, found, MayRun, is_due, turned_row, places_fit, seen_in, chosen_by, or_refused, judged_by}
 use Rattle.machine.proofs.Tests.{both, first_fails, and_true, and_false, not_leb, blank_never}
 use Rattle.machine.proofs.Searches.{place_below, place_at, found_place, first_blank, none_at, map_append}
 use Rattle.machine.proofs.Mask.{past_same}
 use Rattle.machine.proofs.Verdicts.{past_in, soon_in, hyper_in, passed}
-use Rattle.machine.proofs.Choice.{turned_law, turned_length, chosen_law, chosen_runs}
+use Rattle.machine.proofs.Choice.{turned_law, turned_length, passed_law, chosen_law, chosen_runs}
+use Rattle.machine.proofs.Pass.{passed_length}
 
 -- a row that is neither in the mask nor due stays
 not_enforced : (clock k e : ℕ) (s : Stage) → is_due clock e s ≡ false → enforced clock k e s ≡ s
@@ -117,12 +117,15 @@ module _ (m : Machine) (mask : ℕ) (long : length m.rows ≡ 32) (fit : places_
   table_only : (p : ℕ → Row → Bool) → ((i : ℕ) (r : Row) → is_blank r ≡ true → p i r ≡ false) → first p table ≡ first p m.rows
   table_only p fails = sym (rw take-append-drop at (first_blank p fails table rest parts.3))
 
-  soon_law : (seen_in m.clock mask table).soon ≡ place (soon_in m mask)
-  unfolding seen_in
-  soon_law = ap place (table_only (too_soon mask m.clock) (λ i r h. rw (blank_never r h, and_false (in_mask mask i))))
+  soon_table : first (too_soon mask m.clock) table ≡ soon_in m mask
+  soon_table = table_only (too_soon mask m.clock) (λ i r h. rw (blank_never r h, and_false (in_mask mask i)))
 
   hyper_table : first (while_hyper mask) table ≡ hyper_in m mask
   hyper_table = table_only (while_hyper mask) (λ i r h. rw (blank_never r h, and_false (in_mask mask i)))
+
+  soon_law : (seen_in m.clock mask table).soon ≡ place (soon_in m mask)
+  unfolding seen_in
+  soon_law = ap place soon_table
 
   hyper_law : (seen_in m.clock mask table).hyper ≡ place (hyper_in m mask)
   unfolding seen_in
@@ -138,26 +141,27 @@ module _ (m : Machine) (mask : ℕ) (long : length m.rows ≡ 32) (fit : places_
 
   -- the machine after the pass
   abbrev pub rows_passed : List Row
-  rows_passed = turned m.clock mask table ++ rest
+  rows_passed = passed_rows m.clock mask table ++ rest
 
   abbrev pub passed_over : Machine
   passed_over = record { rows = rows_passed; count = m.count; clock = m.clock }
 
-  passed_length : length rows_passed ≡ length m.rows
-  passed_length =
-      let a = turned_length m.clock mask table in
+  all_length : length rows_passed ≡ length m.rows
+  all_length =
+      let a = passed_length m.clock mask table in
       let b = length-append table rest in
-      length-append (turned m.clock mask table) rest ∙ rw (a, ← b) (ap length (take-append-drop m.count m.rows))
+      length-append (passed_rows m.clock mask table) rest ∙ rw (a, ← b) (ap length (take-append-drop m.count m.rows))
 
   past_law : first (past_last mask m.count) rows_passed ≡ past_in m mask
-  past_law = past_same mask m.count 0 rows_passed m.rows passed_length
+  past_law = past_same mask m.count 0 rows_passed m.rows all_length
 
   -- in a tick that is taken no task in the mask is past the table
   turned_all : verdict m mask ≡ accepted → turned m.clock mask (table ++ rest) ≡ rows_passed
   turned_all ok =
       let f : ℕ → Row → Row = turned_row m.clock mask in
       let z : 0 + length table ≡ m.count = omega (arith, table_length) in
-      rw (turned_law m.clock mask table, turned_law m.clock mask (table ++ rest), map_append f 0 table rest, z)
+      let p = passed_law m.clock mask table (soon_table ∙ (passed m mask ok).apart) (hyper_table ∙ (passed m mask ok).free) in
+      rw (p, turned_law m.clock mask table, turned_law m.clock mask (table ++ rest), map_append f 0 table rest, z)
       (ap (λ l. map_from f 0 table ++ l) (blank_stays m.clock mask m.count rest parts.3 out))
     where
       out : (k : ℕ) → k < length rest → in_mask mask (m.count + k) ≡ false
@@ -169,7 +173,7 @@ module _ (m : Machine) (mask : ℕ) (long : length m.rows ≡ 32) (fit : places_
   pub turned_rows : verdict m mask ≡ accepted → rows_passed ≡ turned m.clock mask m.rows
   turned_rows ok = sym (turned_all ok) ∙ ap (turned m.clock mask) (take-append-drop m.count m.rows)
 
-  chosen_table : chosen (turned m.clock mask table) ≡ chosen rows_passed
+  chosen_table : chosen (turned m.clock mask table) ≡ chosen (turned m.clock mask table ++ rest)
   unfolding chosen
   chosen_table =
       let t : List Row = turned m.clock mask table in
@@ -180,12 +184,14 @@ module _ (m : Machine) (mask : ℕ) (long : length m.rows ≡ 32) (fit : places_
 
   pub runs : verdict m mask ≡ accepted → chosen_by (seen_in m.clock mask table) ≡ place (chosen (turned m.clock mask m.rows))
   runs ok =
-      chosen_law m.clock mask table (hyper_table ∙ (passed m mask ok).free) ∙ ap place (chosen_table ∙ ap chosen (turned_rows ok))
+      let s = soon_table ∙ (passed m mask ok).apart in
+      let h = hyper_table ∙ (passed m mask ok).free in
+      chosen_law m.clock mask table s h
+      ∙ ap place (chosen_table ∙ ap (λ l. chosen (l ++ rest)) (sym (passed_law m.clock mask table s h)) ∙ ap chosen (turned_rows ok))
 
   pub judged_law : judged_by passed_over mask (seen_in m.clock mask table) ≡ judged_as m mask (verdict m mask)
   unfolding judged_by verdict
-  judged_law = rw (past_law, soon_law, hyper_law)
-      (go (well_formed m) refl (eqb m.clock (2 ^ 40)) refl (past_in m mask) refl (soon_in m mask) refl (hyper_in m mask) refl)
+  judged_law = rw (past_law, soon_law, hyper_law) (go (well_formed m) refl (eqb m.clock (2 ^ 40)) refl (past_in m mask) refl (soon_in m mask) refl (hyper_in m mask) refl)
     where
       Judged : Type 0
       Judged = cond (ltb m.count 1 || ltb (2 ^ 40) m.clock) (Err (Refusal.NotWellFormed 0))

@@ -10,9 +10,9 @@ use Rattle.machine.specs.declared.Machine.{Machine}
 use Rattle.machine.specs.declared.Taken.{Taken}
 use Rattle.machine.specs.declared.Stepped.{Stepped}
 use Rattle.machine.specs.declared.Seen.{Seen}
-use Rattle.machine.specs.Rows.{in_mask, age, Found, at, none, first, every, is_hyper, has_begun, has_budget, with_stage}
+use Rattle.machine.specs.Rows.{in_mask, age, Found, at, none, first, map_from, every, is_hyper, has_begun, has_budget, with_stage}
 use Rattle.machine.specs.WellFormed.{row_fits, is_blank, one_begun}
-use Rattle.machine.specs.TickRule.{younger_than, past_last, too_soon, while_hyper, enforced, begun, waiting, ready, turned}
+use Rattle.machine.specs.TickRule.{younger_than, past_last, too_soon, while_hyper, enforced, begun, waiting, ready}
 
 -- what was found, as src/ has it
 abbrev pub place : Found → Option ℕ
@@ -43,6 +43,17 @@ answer_if fits x = cond fits (Ok x) (Err (Refusal.NotWellFormed 0))
 -- one row after steps 1 and 2, by whether its task is in the mask
 abbrev pub turned_by : ℕ → Bool → Row → Row
 turned_by clock arrives r = with_stage r (cond arrives (Stage.Guest clock 0) (enforced clock r.k r.e r.stage))
+
+-- refusals 11 and 12 let its task arrive
+abbrev pub may_arrive : ℕ → Row → Bool
+may_arrive clock r = not (younger_than clock r.t r.stage) && not (is_hyper r.stage)
+
+-- rows as the pass leaves them: a task that may not arrive isn't turned to a Guest
+abbrev pub passed_row : ℕ → ℕ → ℕ → Row → Row
+passed_row clock mask i r = turned_by clock (in_mask mask i && may_arrive clock r) r
+
+unfoldable pub passed_rows : ℕ → ℕ → List Row → List Row
+passed_rows clock mask rows = map_from (passed_row clock mask) 0 rows
 
 unfoldable pub turned_row : ℕ → ℕ → ℕ → Row → Row
 turned_row clock mask i r = with_stage r (cond (in_mask mask i) (Stage.Guest clock 0) (enforced clock r.k r.e r.stage))
@@ -88,13 +99,13 @@ second_begun r w = has_begun r.k r.stage && is_some w.begun
 
 -- one row more, at place i
 unfoldable pub row_seen : ℕ → Bool → ℕ → Row → Seen → Seen
-row_seen clock arrives i r w =
+row_seen clock named i r w =
     record {
-      soon = first_kept w.soon (arrives && younger_than clock r.t r.stage) i;
-      hyper = first_kept w.hyper (arrives && is_hyper r.stage) i;
+      soon = first_kept w.soon (named && younger_than clock r.t r.stage) i;
+      hyper = first_kept w.hyper (named && is_hyper r.stage) i;
       begun = first_kept w.begun (has_begun r.k r.stage) i;
-      waiting = first_kept w.waiting (is_hyper (turned_by clock arrives r).stage) i;
-      ready = first_kept w.ready (has_budget r.c (turned_by clock arrives r).stage) i;
+      waiting = first_kept w.waiting (is_hyper (turned_by clock (named && may_arrive clock r) r).stage) i;
+      ready = first_kept w.ready (has_budget r.c (turned_by clock (named && may_arrive clock r) r).stage) i;
     }
 
 -- what the rows l show
@@ -104,8 +115,8 @@ seen_in clock mask l =
       soon = place (first (too_soon mask clock) l);
       hyper = place (first (while_hyper mask) l);
       begun = place (first begun l);
-      waiting = place (first waiting (turned clock mask l));
-      ready = place (first ready (turned clock mask l));
+      waiting = place (first waiting (passed_rows clock mask l));
+      ready = place (first ready (passed_rows clock mask l));
     }
 
 -- The verdict on what the pass found; where the tick is taken, the place that step 3 chooses

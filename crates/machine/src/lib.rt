@@ -4,9 +4,9 @@
 ghost use Rattle.std.specs.Prelude.{◌≡◌, Ok, Err, Bool, true, not, cond, ◌&&◌, ◌||◌, ◌+◌, ◌^◌, ◌<◌, ◌≤◌, ◌++◌, get_or, take, drop, OnOk, OnSome, IfSome};
 ghost use Rattle.machine.specs.Rows.{no_row, age, in_mask, first, with_stage, is_hyper, has_begun, has_budget};
 ghost use Rattle.machine.specs.WellFormed.{in_limits, fields_fit, stage_fits, row_fits, is_blank};
-ghost use Rattle.machine.specs.TickRule.{younger_than, past_last, hypertask_ran, guest_ran, nobody_ran, ran_from, ran_on, turned, step_of};
+ghost use Rattle.machine.specs.TickRule.{younger_than, past_last, hypertask_ran, guest_ran, nobody_ran, ran_from, ran_on, step_of};
 ghost use Rattle.machine.specs.OnePass.{turned_by, arrival_seen, turned_seen, second_begun, row_seen, chosen_by, seen_in, judged_by};
-ghost use Rattle.machine.specs.OnePass.{place, found, MayRun, answer_if, places_fit, stepped_to};
+ghost use Rattle.machine.specs.OnePass.{place, found, MayRun, may_arrive, passed_rows, answer_if, places_fit, stepped_to};
 
 use refusals::Refusal;
 
@@ -301,7 +301,7 @@ impl Seen {
     // pass: one that checks and one that turns took 1.15 of the time.
     fn over(rows: &mut [Row; PLACES], count: usize, clock: u64, mask: u32) -> Result<Seen, Refusal>
         ensures answer { result ≡ answer_if (places_fit clock count rows.old) (seen_in clock mask (take count rows.old)) }
-        ensures turned { OnOk result (rows.new ≡ turned clock mask (take count rows.old) ++ drop count rows.old) }
+        ensures turned { OnOk result (rows.new ≡ passed_rows clock mask (take count rows.old) ++ drop count rows.old) }
     {
         if PLACES < count {
             return Err(Refusal::NotWellFormed(0));
@@ -320,32 +320,34 @@ impl Seen {
 
     // One row further, which is turned on the way. 8 refuses one that isn't well formed, and a second hypertask that has begun.
     #[tactic(auto, unfolding(crate::specs::OnePass::row_seen))]
-    fn see(&mut self, i: usize, row: &mut Row, clock: u64, arrives: bool) -> Result<(), Refusal>
+    fn see(&mut self, i: usize, row: &mut Row, clock: u64, named: bool) -> Result<(), Refusal>
         ensures answer { result ≡ answer_if (row_fits clock row.old && not (second_begun row.old self.old)) tt }
-        ensures turned { OnOk result (row.new ≡ turned_by clock arrives row.old) }
-        ensures seen { OnOk result (self.new ≡ row_seen clock arrives i row.old self.old) }
+        ensures turned { OnOk result (row.new ≡ turned_by clock (named && may_arrive clock row.old) row.old) }
+        ensures seen { OnOk result (self.new ≡ row_seen clock named i row.old self.old) }
     {
         if !row.fits(clock) || row.has_begun() && self.begun.replace(i).is_some() {
             return Err(Refusal::NotWellFormed(0));
         }
-        if arrives {
-            self.see_arrival(i, *row, clock);
-        }
+        let arrives = named && self.see_arrival(i, *row, clock);
         row.turn(clock, arrives);
         self.see_turned(i, *row);
         Ok(())
     }
 
-    // A task in the mask. Whether it comes too soon is asked only while none did, which saves time.
-    fn see_arrival(&mut self, i: usize, row: Row, clock: u64)
-        ensures { self.new ≡ arrival_seen clock i row self.old }
+    // A task in the mask, and whether it may arrive.
+    fn see_arrival(&mut self, i: usize, row: Row, clock: u64) -> bool
+        ensures seen { self.new ≡ arrival_seen clock i row self.old }
+        ensures may { result ≡ may_arrive clock row }
     {
-        if self.soon.is_none() && row.stage.is_younger(clock, row.t) {
-            self.soon = Some(i);
+        let soon = row.stage.is_younger(clock, row.t);
+        if soon {
+            self.soon = self.soon.or(Some(i));
         }
-        if row.stage.is_hyper() {
+        let hyper = row.stage.is_hyper();
+        if hyper {
             self.hyper = self.hyper.or(Some(i));
         }
+        !soon && !hyper
     }
 
     // A row after steps 1 and 2.
