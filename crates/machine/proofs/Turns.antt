@@ -17,7 +17,8 @@ use Rattle.machine.specs.declared.Row.{Row}
 use Rattle.machine.specs.declared.Machine.{Machine}
 use Rattle.machine.specs.Rows.{no_row, in_mask, Found, at, none, first, map_from, every}
 use Rattle.machine.specs.WellFormed.{row_fits, is_blank, one_begun, well_formed}
-use Rattle.machine.specs.TickRule.{past_last, too_soon, while_hyper, Verdict, refused, accepted, verdict, enforced, begun, waiting, ready, chosen, turned, ran_on, taken, step_of}
+use Rattle.machine.specs.TickRule.{past_last, too_soon, while_hyper, Verdict, refused, accepted, verdict}
+use Rattle.machine.specs.TickRule.{enforced, begun, waiting, ready, chosen, turned, ran_on, taken, step_of}
 use Rattle.machine.specs.OnePass.{passed_rows, place, found, MayRun, is_due, turned_row, places_fit, seen_in, chosen_by, or_refused, judged_by}
 use Rattle.machine.proofs.Tests.{both, first_fails, and_true, and_false, not_leb, blank_never}
 use Rattle.machine.proofs.Searches.{place_below, place_at, found_place, first_blank, none_at, map_append}
@@ -191,7 +192,8 @@ module _ (m : Machine) (mask : ℕ) (long : length m.rows ≡ 32) (fit : places_
 
   pub judged_law : judged_by passed_over mask (seen_in m.clock mask table) ≡ judged_as m mask (verdict m mask)
   unfolding judged_by verdict
-  judged_law = rw (past_law, soon_law, hyper_law) (go (well_formed m) refl (eqb m.clock (2 ^ 40)) refl (past_in m mask) refl (soon_in m mask) refl (hyper_in m mask) refl)
+  judged_law = rw (past_law, soon_law, hyper_law)
+      (go (well_formed m) refl (eqb m.clock (2 ^ 40)) refl (past_in m mask) refl (soon_in m mask) refl (hyper_in m mask) refl)
     where
       Judged : Type 0
       Judged = cond (ltb m.count 1 || ltb (2 ^ 40) m.clock) (Err (Refusal.NotWellFormed 0))

@@ -45,7 +45,8 @@ loop-i-preserved c =
 pub returns-then-all-clause-answer : goal.returns-then-all-clause-answer
 returns-then-all-clause-answer c =
     let a = c.args in
-    let ran = all_from_yields_List is_blank _ _ _ c.all.ensures.ran (YieldsList-from_slice c.split_at_mut-table.result.1.now cc) (λ x b q k. search (rules, tests)) in
+    let ran = all_from_yields_List is_blank _ _ _ c.all.ensures.ran
+    (YieldsList-from_slice c.split_at_mut-table.result.1.now cc) (λ x b q k. search (rules, tests)) in
     let blank : every is_blank (drop a.count a.rows.now) ≡ true =
     every_law is_blank (drop a.count a.rows.now) ∙ sym (rw c.split_at_mut-table.ensures.back at ran) ∙ c.if-all.true in
     let p = rw c.split_at_mut-table.ensures.front at c.loop-i.invariant in
@@ -58,7 +59,8 @@ returns-then-all-clause-answer c =
 pub returns-else-all-clause-answer : goal.returns-else-all-clause-answer
 returns-else-all-clause-answer c =
     let a = c.args in
-    let ran = all_from_yields_List is_blank _ _ _ c.all.ensures.ran (YieldsList-from_slice c.split_at_mut-table.result.1.now cc) (λ x b q k. search (rules, tests)) in
+    let ran = all_from_yields_List is_blank _ _ _ c.all.ensures.ran
+    (YieldsList-from_slice c.split_at_mut-table.result.1.now cc) (λ x b q k. search (rules, tests)) in
     let blank : every is_blank (drop a.count a.rows.now) ≡ false =
     every_law is_blank (drop a.count a.rows.now) ∙ sym (rw c.split_at_mut-table.ensures.back at ran) ∙ c.if-all.false in
     rw (rest_unfit a.clock a.count a.rows.now blank)
