@@ -21,7 +21,7 @@ use Rattle.machine.specs.declared.Machine.{Machine}
 use Rattle.machine.specs.declared.Stepped.{Stepped}
 use Rattle.export.specs.Ticks.{answer_bytes, step_by, machine_after, answer_to}
 
-answer_length : (clock : ℕ) (a : Answer) → length (answer_bytes clock a) ≡ 12
+pub answer_length : (clock : ℕ) (a : Answer) → length (answer_bytes clock a) ≡ 12
 answer_length clock (Ok t) = refl
 answer_length clock (Err r) = refl
 

@@ -9,7 +9,8 @@ use borrow.Author.Tests.{lt-ltb, le-ltb, ne_eqb}
 use lib.Dec.{eqb}
 use lib.ListN.{length, drop, take-append-drop}
 use Rattle.std.specs.Prelude.{Option, Result, None, Some, Ok, Err}
-use Rattle.std.specs.Option.{ok_or}
+use Rattle.std.specs.Borrow.{MutBor}
+use Rattle.std.specs.Option.{ok_or, MatchOption}
 use Rattle.std.specs.Result.{IsErrAnd}
 use Rattle.std.proofs.lemmas.Result.{err_from_is_err_and}
 use Rattle.std.specs.Array.{IsFirstChunk}
@@ -40,6 +41,17 @@ pub there : {A : Type 0} (o : Option A) (a : A) (e : Refusal) → Ok a ≡ ok_or
 there None a e h = absurd cc
 there (Some b) a e h = cc
 
+-- the front of a slice
+pub front : (n : ℕ) (s : List ℕ) (o : Option (MutBor (List ℕ))) (f : MutBor (List ℕ)) (e : Refusal) → Ok f ≡ ok_or o e
+    → MatchOption o (length s < n) (λ x. IsFirstChunk s x.now n) → IsFirstChunk s f.now n
+front n s None f e h m = absurd cc
+front n s (Some g) f e h m = let z : g ≡ f = cc in rw z at m
+
+pub no_front : {B : Type 0} (n : ℕ) (s : List ℕ) (o : Option (MutBor (List ℕ))) (r : Result B Refusal) (d e : Refusal) → Err d ≡ ok_or o e
+    → IsErrAnd r (λ x. x ≡ d) → MatchOption o (length s < n) (λ x. IsFirstChunk s x.now n) → (length s < n) × (r ≡ Err e)
+no_front n s None r d e h i m = (m, (missing None r d e h i).1)
+no_front n s (Some g) r d e h i m = absurd cc
+
 -- ## What is read
 
 -- the numbers f in front of the lent ones
@@ -61,7 +73,7 @@ module _ (s records lent : List ℕ) where
   unread h = record { answers = rw h; leaves = rw h; writes = rw h }
 
   pub run_short : length s < 258 → RunsTicks s records lent (Err (NotWellFormed 0)) s lent
-  run_short h = unread (too_few s h)
+  run_short h = unread (sym (too_few s h))
 
   pub run_unread : (f : List ℕ) → IsFirstChunk s f 258 → read_of f ≡ None → RunsTicks s records lent (Err (NotWellFormed 0)) (f ++ drop 258 s) lent
   run_unread f p e = rw (back s f p) (unread (front_false s f p e))
@@ -116,7 +128,7 @@ module _ (s : List ℕ) (mask signal early : ℕ) (lent : List ℕ) where
     whole = ap (λ (l : List ℕ). l ++ drop 12 lent) q.same ∙ take-append-drop 12 lent
 
     pub step_few : length s < 258 → TakesStep s mask signal early lent (Err (NotWellFormed 0)) s (g ++ drop 12 lent)
-    step_few b = rw whole (unread_step h q.enough (too_few s b))
+    step_few b = rw whole (unread_step h q.enough (sym (too_few s b)))
 
     module _ (f : List ℕ) (p : IsFirstChunk s f 258) where
       pub step_unread : read_of f ≡ None → TakesStep s mask signal early lent (Err (NotWellFormed 0)) (f ++ drop 258 s) (g ++ drop 12 lent)

@@ -2,5 +2,4 @@ pub mod States
 pub mod AnswerBytes
 pub mod Ends
 pub mod FileParts
-pub mod Texts
 pub mod Determined

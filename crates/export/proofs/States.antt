@@ -88,9 +88,13 @@ fields l i h =
       none_stray = f.1;
     }
 
-pub too_few : (l : List ℕ) → length l < 258 → readable l ≡ false
+pub too_few : (l : List ℕ) → length l < 258 → false ≡ readable l
 unfolding readable
 too_few l h = rw (lt-ltb _ _ h)
+
+pub one_unreadable : (l : List ℕ) (k : ℕ) → 258 ≤ length l → first_where (unreadable l) 0 32 ≡ Some k → false ≡ readable l
+unfolding readable
+one_unreadable l k h e = rw (le-ltb _ _ h, e)
 
 pub all_readable : (l : List ℕ) → 258 ≤ length l → first_where (unreadable l) 0 32 ≡ None → true ≡ readable l
 unfolding readable
@@ -111,10 +115,6 @@ can_read l e = go (ltb (length l) 258) refl (first_where (unreadable l) 0 32) re
     go false p None q e =
         record { long = ltb-false (length l) 258 p; places = λ i h. where_none (unreadable l) 32 0 q i (omega arith) (omega arith) }
     go false p (Some k) q e = absurd (true≢false (sym e))
-
-one_unreadable : (l : List ℕ) (k : ℕ) → 258 ≤ length l → first_where (unreadable l) 0 32 ≡ Some k → readable l ≡ false
-unfolding readable
-one_unreadable l k h e = rw (le-ltb _ _ h, e)
 
 -- ## A place by itself
 
@@ -205,17 +205,19 @@ unfolding read_of
 read_not l i rows h g b e = go (unreadable l i) refl e
   where
     go : (t : Bool) → unreadable l i ≡ t → None ≡ cond t None (Some (row_in l i)) → None ≡ cond (readable l) (Some (machine_in l)) None
-    go true p q = rw (one_unreadable l i g (where_finds (unreadable l) 32 0 i (omega arith) (omega arith) p (λ v x y. b.passed v y)))
+    go true p q =
+        let r = one_unreadable l i g (where_finds (unreadable l) 32 0 i (omega arith) (omega arith) p (λ v x y. b.passed v y)) in
+        rw (← r)
     go false p q = absurd (some_not (row_in l i) (sym q))
 
 pub read_all : (l : List ℕ) (i : ℕ) (rows : List Row) → i ≡ 32 → 258 ≤ length l → Before l i rows
     → Some (record { rows = rows; count = get_or l 0 0; clock = get_or l 1 0 }) ≡ read_of l
 unfolding read_of machine_in
 read_all l i rows z g b =
-    let r : readable l ≡ true = sym (all_readable l g (where_all (unreadable l) 32 0 (λ v x y. b.passed v (omega arith)))) in
+    let r = all_readable l g (where_all (unreadable l) 32 0 (λ v x y. b.passed v (omega arith))) in
     let e : rows ≡ list_of (row_in l) 32 =
     b.filled ∙ ap (λ (x : ℕ). list_of (row_in l) x ++ replicate (32 - x) no_row) z ∙ append-nil (list_of (row_in l) 32) in
-    rw (r, e)
+    rw (← r, e)
 
 -- what was read, or not
 pub read_none : (l : List ℕ) → read_of l ≡ None → readable l ≡ false
@@ -266,4 +268,4 @@ read_front l f h e =
 
 pub read_short : (l : List ℕ) → length l < 258 → None ≡ read_of l
 unfolding read_of
-read_short l h = rw (too_few l h)
+read_short l h = rw (sym (too_few l h))

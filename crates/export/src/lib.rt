@@ -92,6 +92,7 @@ pub fn tollsalmon_write(table: &[u32], script: &[u8], output: &mut [u8], place: 
 }
 
 // The whole text of a plan's run to the front of lent bytes, where they are enough: how many bytes it has.
+#[tactic(auto, unfolding(crate::specs::Files::to_front))]
 pub fn tollsalmon_report(file: &[u8], text: &mut [u8]) -> u64
     ensures { PrintsRun file.now text.old result text.new }
 {

@@ -7,10 +7,12 @@ ghost use Rattle.export.specs.Inside.{stage_numbers, stage_told, field_told, row
 use machine::{Machine, Row, Stage};
 use refusals::Refusal;
 
-// The numbers of a place, and of a machine: the count of rows, the clock and 32 places.
+// The places of a machine, the numbers of a place, and those of a machine: the count of rows, the clock and its places.
+const PLACES: usize = 32;
+
 const PLACE: usize = 8;
 
-pub(crate) const STATE: usize = 2 + 32 * PLACE;
+pub(crate) const STATE: usize = 2 + PLACE * PLACES;
 
 // The three numbers of a stage.
 fn stage_numbers(s: Stage) -> [u64; 3]
@@ -24,6 +26,7 @@ fn stage_numbers(s: Stage) -> [u64; 3]
     }
 }
 
+// The eight numbers of a place.
 fn row_numbers(r: &Row) -> [u64; PLACE]
     ensures { result ≡ row_numbers r.now }
 {
@@ -40,6 +43,7 @@ fn row_numbers(r: &Row) -> [u64; PLACE]
     ]
 }
 
+// A machine to its numbers.
 pub(crate) fn put(numbers: &mut [u64; STATE], m: &Machine)
     ensures { numbers.new ≡ state_of m.now }
 {
@@ -70,9 +74,9 @@ fn stage_in(stage: u64, arrival: u64, ticks: u64) -> Option<Stage>
 {
     match (stage, arrival, ticks) {
         (0, 0, 0) => Some(Stage::Never),
-        (1, _, used) => Some(Stage::Guest(arrival, used)),
-        (2, _, left) => Some(Stage::Hyper(arrival, left)),
-        (3, _, 0) => Some(Stage::Closed(arrival)),
+        (1, arrival, used) => Some(Stage::Guest(arrival, used)),
+        (2, arrival, left) => Some(Stage::Hyper(arrival, left)),
+        (3, arrival, 0) => Some(Stage::Closed(arrival)),
         _ => None,
     }
 }
@@ -84,6 +88,7 @@ fn field_in(x: u64) -> Option<u32>
     u32::try_from(x).ok()
 }
 
+// The row that the numbers of a place tell, where they tell one.
 #[tactic(auto, unfolding(crate::specs::State::unreadable, crate::specs::State::row_in))]
 fn row_in(place: &[u64; PLACE]) -> Option<Row>
     ensures { result ≡ row_told place.now }
@@ -99,13 +104,14 @@ fn row_in(place: &[u64; PLACE]) -> Option<Row>
     })
 }
 
+// The machine that numbers tell, where they tell one.
 pub(crate) fn machine_in(numbers: &[u64; STATE]) -> Option<Machine>
     ensures { result ≡ read_of numbers.now }
 {
     let (places, _) = numbers[2..].as_chunks();
-    let mut rows = [start::no_row(); 32];
-    for (i, row) in rows.iter_mut().enumerate() {
-        *row = row_in(&places[i])?;
+    let mut rows = [start::no_row(); PLACES];
+    for (i, place) in places.iter().enumerate() {
+        rows[i] = row_in(place)?;
     }
     Some(Machine {
         rows,
@@ -114,9 +120,9 @@ pub(crate) fn machine_in(numbers: &[u64; STATE]) -> Option<Machine>
     })
 }
 
-// A machine from lent numbers, where it can be read. Not inlined, for speed: a compiler that unrolls a loop over all 32 rows
-// takes the array apart into hundreds of moves (docs/DECISIONS.md, "The pass over the rows stands in `step` itself").
+// A machine from lent numbers, where it can be read. Never inlined: a loop of ticks beside it takes up to 1.3 times as long.
 #[inline(never)]
+#[tactic(auto, using(crate::proofs::States::read_front, crate::proofs::States::read_short))]
 pub fn read(state: &[u64]) -> Option<Machine>
     ensures { result ≡ read_of state.now }
 {

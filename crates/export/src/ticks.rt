@@ -3,7 +3,7 @@ ghost use Rattle.std.specs.Prelude.{◌≡◌, ◌*◌, ◌/◌, ◌≤◌, ◌+
 ghost use Rattle.least.specs.Lists.{flat};
 ghost use Rattle.plan.specs.Numbers.{bytes_of};
 ghost use Rattle.export.specs.Inside.{RunsTicks, TakesStep};
-ghost use Rattle.export.specs.Ticks.{who_of, task_of, mark_of, bit_of, answer_bytes, machine_after, answer_to};
+ghost use Rattle.export.specs.Ticks.{who_of, task_of, mark_of, bit_of, said_of, answer_bytes, machine_after, answer_to};
 
 use crate::state;
 use machine::{Machine, Mark, Ran, Taken};

@@ -52,6 +52,7 @@ fn run(m: Machine, mask: u32, signal: u8, early: bool, times: u64) -> u64
 }
 
 // The same from the machine in lent numbers; 0 where it can't be read, and for more than 2^32 ticks.
+#[tactic(auto, unfolding(crate::specs::Pace::pace_of, export::specs::State::read_of))]
 pub fn tollsalmon_bench_ticks(state: &[u64], mask: u32, signal: u8, early: u8, times: u64) -> u64
     ensures { result ≡ pace_of state.now mask signal early times }
 {

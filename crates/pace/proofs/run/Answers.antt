@@ -1,4 +1,4 @@
-use mathlib.Core.Path.{◌≡◌, refl, ap, ◌∙◌}
+use mathlib.Core.Path.{refl}
 use native.Mathlib.Omega.{arith}
 use Rattle.least.specs.Sums.{sum}
 use Rattle.pace.specs.Pace.{machine_after, ticks_sum}
@@ -19,9 +19,3 @@ loop-preserved c =
       sum_more a.m a.mask a.signal a.early l.counter l.s.machine s.result l.total x.result l.invariant.0 s.ensures l.invariant.1 x.ensures.value,
       omega arith,
     )
-
-pub returns : goal.returns
-returns c =
-    let a = c.args in
-    let e : c.loop.counter ≡ a.times = omega arith in
-    c.loop.invariant.1 ∙ ap (ticks_sum a.m a.mask a.signal a.early) e

@@ -1,10 +1,7 @@
-use mathlib.Core.Path.{◌≡◌, refl, ap, ◌∙◌}
-use mathlib.Core.List.{◌++◌}
-use Prim.Native.Nat.{ℕ, ◌*◌}
+use mathlib.Core.Path.{refl, ◌∙◌}
 use native.Mathlib.Omega.{arith}
-use lib.ListN.{drop}
 use Rattle.least.specs.Lists.{flat}
-use Rattle.export.specs.Ticks.{machine_after, answer_to}
+use Rattle.export.specs.Ticks.{machine_after}
 use Rattle.export.proofs.AnswerBytes.{tick_some, tick_is, machine_more, answer_more}
 use Rattle.export.proofs.ticks.take.Goals as goal
 
@@ -25,12 +22,3 @@ loop-i-preserved c =
       answer_more c.args.m rs l.i l.m c.unwrap-t.result s.result c.args.answers.now l.answers _ l.invariant.0 t s.ensures l.invariant.1
           (c.copy_from_slice.ensures.after ∙ c.answer_bytes.ensures),
     )
-
-pub returns : goal.returns
-returns c =
-    let e : c.loop-i.i ≡ c.args.n = omega arith in
-    record {
-      value = c.loop-i.invariant.0 ∙ ap (machine_after c.args.m c.args.records.now) e;
-      answers = c.loop-i.invariant.1
-          ∙ ap (λ (x : ℕ). flat (answer_to c.args.m c.args.records.now) x ++ drop (12 * x) c.args.answers.now) e;
-    }
