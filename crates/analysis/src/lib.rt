@@ -13,6 +13,7 @@ ghost use Rattle.equations.specs.Table.{rows};
 ghost use Rattle.equations.specs.Analysis.{solved, results_by, Analyses};
 
 use refusals::Refusal;
+use results::Responses;
 use table::Table;
 
 // R, E and G of each task of a sound table into the lent results, or the first refusal of 5, 6, 7 and 19.
@@ -22,7 +23,8 @@ fn solve(table: &Table<'_>, lent: &mut [u32]) -> Result<usize, Refusal>
     ensures value { result ≡ solved table.now }
     ensures lent_after { lent.new ≡ results_by table.now lent.old result }
 {
-    let mut found = results::hypertasks(table)?;
+    let mut found = [Responses { r: 0, e: 0, g: 0 }; 32];
+    results::hypertasks(table, &mut found)?;
     results::guests(table, &mut found)?;
     let n = table.rows();
     results::write(lent, &found[..n]);

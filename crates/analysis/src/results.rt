@@ -1,5 +1,5 @@
 // R, E and G of the rows in their order, and into lent memory.
-ghost use Rattle.std.specs.Prelude.{◌≡◌, ◌+◌, ◌*◌, ◌≤◌, ◌++◌, length, drop, Ok, MatchResult};
+ghost use Rattle.std.specs.Prelude.{◌≡◌, ◌+◌, ◌*◌, ◌≤◌, ◌++◌, length, drop, Ok};
 ghost use Rattle.equations.specs.Table.{rows};
 ghost use Rattle.equations.specs.Analysis.{hypertask_check, guest_check};
 ghost use Rattle.analysis.specs.Inside.{Hypertasks, Guests, three_at};
@@ -19,12 +19,10 @@ pub(crate) struct Responses {
 
 // R and E of each row, or the first refusal of 5 and 6.
 #[tactic(auto, using(crate::proofs::Found::rowwise), unfolding(equations::specs::Analysis::hypertask_check))]
-pub(crate) fn hypertasks(table: &Table<'_>) -> Result<[Responses; 32], Refusal>
-    ensures { MatchResult result
-        (λ found. (hypertask_check table.now ≡ Ok tt) × Hypertasks table.now found (rows table.now))
-        (λ f. hypertask_check table.now ≡ Err f) }
+pub(crate) fn hypertasks(table: &Table<'_>, found: &mut [Responses; 32]) -> Result<(), Refusal>
+    ensures value { result ≡ hypertask_check table.now }
+    ensures filled { result ≡ Ok tt → Hypertasks table.now found.new (rows table.now) }
 {
-    let mut found = [Responses { r: 0, e: 0, g: 0 }; 32];
     for (i, row) in found[..table.rows()].iter_mut().enumerate() {
         let task = table.task(i);
         let r = task.response()?;
@@ -34,7 +32,7 @@ pub(crate) fn hypertasks(table: &Table<'_>) -> Result<[Responses; 32], Refusal>
             g: 0,
         };
     }
-    Ok(found)
+    Ok(())
 }
 
 // G of each row, or the first refusal of 7 and 19.

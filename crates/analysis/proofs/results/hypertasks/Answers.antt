@@ -1,4 +1,4 @@
-use mathlib.Core.Path.{◌≡◌, refl, subst}
+use mathlib.Core.Path.{◌≡◌, subst}
 use mathlib.Core.List.{List, ◌++◌}
 use Prim.Native.Nat.{◌+◌, ◌<◌}
 use native.Mathlib.Omega.{arith}
@@ -6,9 +6,8 @@ use lib.ListN.{length, length-set}
 use Rattle.std.proofs.lemmas.List.{set-append_left}
 use Rattle.std.specs.Prelude.{Ok}
 use Rattle.equations.specs.Table.{rows}
-use Rattle.equations.specs.Analysis.{hypertask_check}
 use Rattle.equations.specs.Hypertask.{response}
-use Rattle.equations.proofs.Checks.{rows_next, rows_end}
+use Rattle.equations.proofs.Checks.{rows_next}
 use Rattle.analysis.specs.Inside.{Hypertasks}
 use Rattle.analysis.specs.declared.results.Responses.{Responses}
 use Rattle.analysis.proofs.Found.{hypertasks_more, filled}
@@ -26,12 +25,8 @@ loop-i-preserved c =
           (hypertasks_more s (l.row-items ++ rest) l.i (omega arith) _ _ (l.invariant.2 rest (simp length-set at h)) (cc) found),
     )
 
-pub returns : goal.returns
-unfolding hypertask_check
-returns c =
-    let s = c.args.table.now in
+pub returns-clause-filled : goal.returns-clause-filled
+returns-clause-filled c h =
     let l = c.loop-i in
-    let e : l.i ≡ rows s = omega (arith, l.invariant.1.upto) in (
-      rows_end _ _ l.i l.invariant.1 (omega arith),
-      filled s l.row-items _ c.rows.result l.i _ (omega arith) (omega arith) refl e l.invariant.2,
-    )
+    let e : l.i ≡ rows c.args.table.now = omega (arith, l.invariant.1.upto) in
+    filled c.args.table.now l.row-items c.args.found.now c.rows.result l.i _ (omega arith) (omega arith) (omega arith) e l.invariant.2
