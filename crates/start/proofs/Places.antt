@@ -1,26 +1,17 @@
 -- Laws of a fresh machine's places, and of the E of each row among the analysis's results.
 -- Assumes nothing.
-use mathlib.Core.Path.{◌≡◌, refl, sym, ap, subst, ◌∙◌}
-use mathlib.Core.Bool.{cond}
-use mathlib.Core.List.{List, [], ◌∷◌, ◌++◌, map}
+use mathlib.Core.Path.{◌≡◌, refl, sym, ap, ◌∙◌}
+use mathlib.Core.List.{List, [], ◌∷◌, ◌++◌, append-nil}
 use mathlib.Core.Logic.{⊎_elim}
 use Prim.Native.Nat.{ℕ, zero, suc, ◌+◌, ◌-◌, ◌*◌, ◌≤◌, ◌<◌}
-use native.Mathlib.Nat.{lt_irrefl, zero-add, eq-or-lt_of_le}
-use native.Mathlib.Numerals.{add-one}
+use native.Mathlib.Nat.{lt_irrefl, eq-zero-or-pos}
 use native.Mathlib.Omega.{arith}
-use native.Mathlib.Decide.{dec_lt}
-use borrow.Author.Tests.{lt-ltb, le-ltb}
-use lib.Dec.{ltb}
-use Rattle.std.proofs.lemmas.List.{get_or-append_right, get_or-replicate}
-use denote.Param.Members.{Mut, Called}
-use Rattle.std.specs.Array.{IsFromFnResult, IsFromFnResultFrom}
-use Rattle.std.specs.List.{range_with_len}
-use Rattle.std.proofs.lemmas.List.FromFn.{map-range_with_len_more, get_or-map-range_with_len, fill_by_all}
-use lib.ListN.{length, get_or, get_or-append, drop, replicate, length-append, length-replicate, length-drop}
+use Rattle.std.proofs.lemmas.List.{take-replicate, drop-replicate}
+use lib.ListN.{length, get_or, set, take, drop, replicate, length-append, length-replicate, length-drop}
 use Rattle.std.specs.Prelude.{Ok, Err}
 use Rattle.std.specs.Result.{result_unwrap_or}
 use Rattle.least.specs.Lists.{list_of}
-use Rattle.least.proofs.Lists.{length_list, length_flat, flat_at}
+use Rattle.least.proofs.Lists.{length_list, fill_more, length_flat, flat_at}
 use Rattle.refusals.specs.declared.Refusal.{Refusal}
 use Rattle.equations.specs.Table.{rows}
 use Rattle.equations.specs.Hypertask.{E}
@@ -61,49 +52,24 @@ pub places_none : (s : List ℕ) → replicate 32 no_row ≡ fresh_places s 0
 unfolding fresh_places list_of
 places_none s = refl
 
--- the place of row j, where n rows are there
-abbrev pub place_at : List ℕ → ℕ → ℕ → Row
-place_at s n j = cond (ltb j n) (row_of s j) no_row
+-- only rows that are there are asked for
+pub few_rows : (s results : List ℕ) (n : ℕ) → (0 < n → Analysed s results × (n ≤ rows s)) → n ≤ 32
+few_rows s results n h = ⊎_elim (λ (z : n ≡ 0). omega arith) (λ (p : 0 < n). let r = h p in omega (arith, r.0.sound.few, r.1)) (eq-zero-or-pos n)
 
-rows_at : (s : List ℕ) (n : ℕ) → rows_of s n ≡ map (row_of s) (range_with_len 0 n)
-unfolding list_of
-rows_at s zero = refl
-rows_at s (suc n) =
-    ap (λ (l : List Row). l ++ (row_of s n ∷ [])) (rows_at s n)
-    ∙ sym (ap (λ (k : ℕ). map (row_of s) (range_with_len 0 k)) (sym (add-one n)) ∙ map-range_with_len_more (row_of s) 0 n n (zero-add n))
+-- the first n of 32 places, while they are filled with the rows of a table: none yet, one more, all
+module _ (s : List ℕ) (n : ℕ) (few : n ≤ 32) where
+  pub rows_none : take n (replicate 32 no_row) ≡ rows_of s 0 ++ replicate (n - 0) no_row
+  unfolding list_of
+  rows_none = let z : n - 0 ≡ n = omega arith in rw z (take-replicate n 32 no_row few)
 
-places_at : (s : List ℕ) (n k : ℕ) → k < 32 → get_or (fresh_places s n) k no_row ≡ place_at s n k
-unfolding fresh_places
-places_at s n k h = by (dec_lt k n)
-  where
-    rest : List Row
-    rest = replicate (32 - n) no_row
+  pub rows_more : (j : ℕ) → j < n → set (rows_of s j ++ replicate (n - j) no_row) j (row_of s j) ≡ rows_of s (j + 1) ++ replicate (n - (j + 1)) no_row
+  rows_more j h = fill_more (row_of s) no_row n j h
 
-    by : Dec (k < n) → get_or (rows_of s n ++ rest) k no_row ≡ place_at s n k
-    by (yes b) = rw (lt-ltb k n b)
-        (get_or-append (rows_of s n) rest no_row k (omega (arith, length_list (row_of s) n))
-        ∙ ap (λ (l : List Row). get_or l k no_row) (rows_at s n)
-        ∙ get_or-map-range_with_len (row_of s) 0 n k k no_row b (zero-add k))
-    by (no b) = rw (le-ltb k n (omega arith))
-        (get_or-append_right (rows_of s n) rest n k no_row (length_list (row_of s) n) (omega arith)
-        ∙ get_or-replicate (32 - n) (k - n) no_row no_row (omega arith))
-
--- an array made by calls of a closure that computes the place
-module _ {F : Type 0} (g : Mut F (ℕ × Unit {0}) Row) (f : F) (s : List ℕ) (n : ℕ)
-    (computes : (x : ℕ) (y : Row) (q : F) → Called g f (x, tt) y q → (q ≡ f) × (y ≡ place_at s n x)) where
-  made : (ys : List Row) (m i : ℕ) → IsFromFnResultFrom g f ys i m → (k : ℕ) → i ≤ k → k < i + m → get_or ys k no_row ≡ place_at s n k
-  made ys zero i h k a b = absurd (omega arith)
-  made ys (suc m) i (q, y, here, call, rest) k a b =
-      let c = computes i y q call in
-      ⊎_elim
-      (λ (e : i ≡ k). ap (λ (x : ℕ). get_or ys x no_row) (sym e) ∙ here.1 no_row ∙ c.1 ∙ ap (place_at s n) e)
-      (λ (l : i < k). made ys m (i + 1) (subst (λ (x : F). IsFromFnResultFrom g x ys (i + 1) m) c.0 rest) k (omega arith) (omega arith))
-      (eq-or-lt_of_le a)
-
-  pub places_are : n ≤ 32 → (ys : List Row) → IsFromFnResult g f ys 32 → ys ≡ fresh_places s n
-  places_are h ys r =
-      fill_by_all (place_at s n) ys 32 no_row r.long (λ k b. made ys 32 0 r.each k (omega arith) (omega arith))
-      ∙ sym (fill_by_all (place_at s n) (fresh_places s n) 32 no_row (length_places s n h) (λ k b. places_at s n k b))
+  pub rows_all : (j : ℕ) → j ≡ n → (rows_of s j ++ replicate (n - j) no_row) ++ drop n (replicate 32 no_row) ≡ fresh_places s n
+  unfolding fresh_places
+  rows_all j e =
+      let z : n - n ≡ 0 = omega arith in
+      rw (e, z, drop-replicate n 32 no_row) (ap (λ (l : List Row). l ++ replicate (32 - n) no_row) (append-nil (rows_of s n)))
 
 -- ## The results
 

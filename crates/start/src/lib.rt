@@ -9,7 +9,6 @@ ghost use Rattle.start.specs.Inside.{Analysed, fresh_places};
 
 use machine::{Machine, Row, Stage};
 use refusals::Refusal;
-use std::array;
 
 // The machine, and the number of its tasks or the refusal.
 #[derive(Clone, Copy)]
@@ -52,26 +51,35 @@ fn rows_of(table: &[u32], results: &[u32], n: usize) -> [Row; 32]
     requires { 0 < n → Analysed table.now results.now × (n ≤ rows table.now) }
     ensures { result ≡ fresh_places table.now n }
 {
-    array::from_fn(|j| if j < n {
-        row_of(table, results, j)
-    } else {
-        no_row()
-    })
+    let mut places = [no_row(); 32];
+    for (j, place) in places[..n].iter_mut().enumerate() {
+        *place = row_of(table, results, j);
+    }
+    places
 }
 
-// A machine at clock 0 with every task Never, or the machine with no rows and the refusal.
+// A machine at clock 0 with every task Never, or the machine with no rows and the refusal. Two machines: one for both costs a copy
+// more.
 pub fn start(table: &[u32]) -> Started
     ensures { result ≡ start_of table.now }
 {
     let mut results = [0u32; 96];
-    let answer = analysis::analyse(table, &mut results);
-    let count = answer.unwrap_or(0);
-    Started {
-        machine: Machine {
-            rows: rows_of(table, &results, count),
-            count,
-            clock: 0,
+    match analysis::analyse(table, &mut results) {
+        Ok(count) => Started {
+            machine: Machine {
+                rows: rows_of(table, &results, count),
+                count,
+                clock: 0,
+            },
+            answer: Ok(count),
         },
-        answer,
+        Err(refusal) => Started {
+            machine: Machine {
+                rows: [no_row(); 32],
+                count: 0,
+                clock: 0,
+            },
+            answer: Err(refusal),
+        },
     }
 }

@@ -21,10 +21,11 @@ impl Text<'_> {
     pub fn put_byte(&mut self, b: u8)
         ensures { Puts self.old (b ∷ []) self.new }
     {
-        if self.at < self.bytes.len() {
-            self.bytes[self.at] = b;
+        let at = self.at;
+        if at < self.bytes.len() {
+            self.bytes[at] = b;
         }
-        self.at = self.at.saturating_add(1);
+        self.at = at.saturating_add(1);
     }
 
     pub fn put_bytes(&mut self, bytes: &[u8])
