@@ -26,21 +26,21 @@ fn stage_numbers(s: Stage) -> [u64; 3]
     }
 }
 
-// The eight numbers of a place.
-fn row_numbers(r: &Row) -> [u64; PLACE]
-    ensures { result ≡ row_numbers r.now }
+// A row to the eight numbers of a place, each stored by itself: with an array of them that is copied, a tick of its own takes 1.2 to
+// 1.3 of the time.
+fn put_row(place: &mut [u64], r: &Row)
+    requires { length place.old ≡ PLACE }
+    ensures { place.new ≡ row_numbers r.now }
 {
     let [stage, arrival, ticks] = stage_numbers(r.stage);
-    [
-        u64::from(r.t),
-        u64::from(r.d),
-        u64::from(r.c),
-        u64::from(r.k),
-        u64::from(r.e),
-        stage,
-        arrival,
-        ticks,
-    ]
+    place[0] = u64::from(r.t);
+    place[1] = u64::from(r.d);
+    place[2] = u64::from(r.c);
+    place[3] = u64::from(r.k);
+    place[4] = u64::from(r.e);
+    place[5] = stage;
+    place[6] = arrival;
+    place[7] = ticks;
 }
 
 // A machine to its numbers.
@@ -51,7 +51,7 @@ pub(crate) fn put(numbers: &mut [u64; STATE], m: &Machine)
     numbers[1] = m.clock;
     for (i, row) in m.rows.iter().enumerate() {
         let at = 2 + PLACE * i;
-        numbers[at..at + PLACE].copy_from_slice(&row_numbers(row));
+        put_row(&mut numbers[at..at + PLACE], row);
     }
 }
 

@@ -15,6 +15,9 @@ const RECORD: usize = 8;
 
 const ANSWER: usize = 12;
 
+// The largest early mark.
+const MOST_EARLY: u8 = 1;
+
 // A state that can't be read.
 const UNREADABLE: Refusal = Refusal::NotWellFormed(0);
 
@@ -122,7 +125,7 @@ pub(crate) fn step(
 ) -> Result<(), Refusal>
     ensures { TakesStep state.old mask signal early answer.old result state.new answer.new }
 {
-    if 1 < early {
+    if MOST_EARLY < early {
         return Err(Refusal::RecordBytes(0));
     }
     let said = answer
