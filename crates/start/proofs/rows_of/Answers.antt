@@ -12,8 +12,11 @@ use Rattle.start.proofs.rows_of.Goals as goal
 pub loop-j-init : goal.loop-j-init
 loop-j-init c =
     let n = c.args.n in
-    let few = few_rows c.args.table.now c.args.results.now n c.requires in
-    (omega arith, omega (arith, length-take n (replicate 32 c.no_row-places.result)), ap (λ (r : Row). take n (replicate 32 r)) c.no_row-places.ensures ∙ rows_none c.args.table.now n few)
+    let few = few_rows c.args.table.now c.args.results.now n c.requires in (
+      omega arith,
+      omega (arith, length-take n (replicate 32 c.no_row-places.result)),
+      ap (λ (r : Row). take n (replicate 32 r)) c.no_row-places.ensures ∙ rows_none c.args.table.now n few,
+    )
 
 pub loop-j-preserved : goal.loop-j-preserved
 loop-j-preserved c =
